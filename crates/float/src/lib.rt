@@ -1,0 +1,1 @@
+// Floats by their bits.

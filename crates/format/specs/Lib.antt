@@ -1,0 +1,14 @@
+pub mod Limits
+pub mod Kinds
+pub mod Parse
+pub mod Names
+pub mod Tree
+pub mod Encoding
+pub mod Payload
+pub mod Reader
+pub mod Mask
+pub mod Places
+pub mod Values
+pub mod WriteList
+pub mod Writer
+pub mod Program

@@ -1,0 +1,83 @@
+-- The mask (document 01, "The mask").
+use Prim.Native.Nat.{ℕ, _+_, _/_, _%_}
+use mathlib.Core.Bool.{Bool, true, false, _&&_, cond}
+use mathlib.Core.List.{List, [], _∷_, _++_}
+use lib.ListN.{length}
+use lib.Dec.{eqb, ltb}
+use Rattle.format.specs.declared.Stop.{Stop}
+use Rattle.format.specs.declared.Stop.the-variants.{Early, Unknown, TooDeep, TooLong, BadUniform}
+use Rattle.format.specs.declared.Form.the-variants.{Top}
+use Rattle.format.specs.Limits.{depthLimit, lengthLimit}
+use Rattle.format.specs.Kinds.{any}
+use Rattle.format.specs.Parse.{Flaw, twin, blank, long, low, wide, notText, mixed, padding, Out, fault, got}
+use Rattle.format.specs.Reader.{read}
+
+abbrev pub stopValue : Stop → ℕ
+stopValue Early = 1
+stopValue Unknown = 2
+stopValue TooDeep = 4
+stopValue TooLong = 8
+stopValue BadUniform = 2048
+
+abbrev pub flawValue : Flaw → ℕ
+flawValue twin = 16
+flawValue blank = 32
+flawValue long = 64
+flawValue low = 128
+flawValue wide = 256
+flawValue notText = 512
+flawValue mixed = 1024
+flawValue padding = 4096
+
+abbrev pub names : ℕ
+names = 1
+
+abbrev pub format : ℕ
+format = 2
+
+abbrev pub paddings : ℕ
+paddings = 4
+
+-- the mode bit under which it counts
+abbrev pub modeOf : Flaw → ℕ
+modeOf twin = names
+modeOf blank = names
+modeOf long = format
+modeOf low = format
+modeOf wide = format
+modeOf notText = format
+modeOf mixed = format
+modeOf padding = paddings
+
+abbrev pub flaws : List Flaw
+flaws = twin ∷ blank ∷ long ∷ low ∷ wide ∷ notText ∷ mixed ∷ padding ∷ []
+
+abbrev pub has : Flaw → List Flaw → Bool
+has f fs = any (λ g. eqb (flawValue f) (flawValue g)) fs
+
+-- other bits of the modes are ignored
+abbrev pub asked : ℕ → Flaw → Bool
+asked modes f = eqb (modes / modeOf f % 2) 1
+
+-- the sum of those that were met and are asked, each once
+abbrev pub sumOf : ℕ → List Flaw → List Flaw → ℕ
+sumOf modes met [] = 0
+sumOf modes met (f ∷ fs) = cond (asked modes f && has f met) (flawValue f) 0 + sumOf modes met fs
+
+abbrev pub left : List ℕ → List Flaw
+left [] = []
+left (b ∷ r) = padding ∷ []
+
+abbrev pub maskOf : {A : Type 0} → ℕ → Out A → ℕ
+maskOf modes (fault k) = stopValue k
+maskOf modes (got x fs r) = sumOf modes (fs ++ left r) flaws
+
+unfoldable pub mask : ℕ → List ℕ → ℕ
+mask modes s = cond (ltb lengthLimit (length s)) (stopValue TooLong) (maskOf modes (read depthLimit Top s))
+
+-- bounds checks alone, and all three modes
+abbrev pub bounds : ℕ
+bounds = 0
+
+abbrev pub strict : ℕ
+strict = names + format + paddings

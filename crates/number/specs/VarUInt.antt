@@ -1,0 +1,53 @@
+-- The VarUInt (document 01, "Numbers and the VarUInt").
+use Prim.Native.Nat.{ℕ, zero, suc, _+_, _-_, _*_, _/_, _^_}
+use mathlib.Core.Bool.{Bool, cond}
+use mathlib.Core.List.{List, [], _∷_}
+use lib.ListN.{length, take, getD}
+use lib.Dec.{ltb, leb}
+use Rattle.number.specs.BigEndian.{behind, toBytes}
+use Rattle.number.specs.declared.VarUInt.{VarUInt}
+use Rattle.number.specs.declared.VarUInt.the-variants.{Cut, Whole}
+
+-- how many of the bounds, in order, are reached
+abbrev pub reached : List ℕ → ℕ → ℕ
+reached [] b = 0
+reached (t ∷ ts) b = cond (ltb b t) 0 (suc (reached ts b))
+
+-- a byte has n leading one bits at least from here on, n from 1 to 8; so these are those bits alone
+abbrev pub leads : List ℕ
+leads = 0x80 ∷ 0xc0 ∷ 0xe0 ∷ 0xf0 ∷ 0xf8 ∷ 0xfc ∷ 0xfe ∷ 0xff ∷ []
+
+abbrev pub lead : ℕ → ℕ
+lead n = getD (0 ∷ leads) n 0
+
+-- n bytes hold what is below here, n from 1 to 8
+abbrev pub bounds : List ℕ
+bounds = 2 ^ 7 ∷ 2 ^ 14 ∷ 2 ^ 21 ∷ 2 ^ 28 ∷ 2 ^ 35 ∷ 2 ^ 42 ∷ 2 ^ 49 ∷ 2 ^ 56 ∷ []
+
+-- the least number that n bytes do not hold
+abbrev pub bound : ℕ → ℕ
+bound n = getD (0 ∷ bounds) n 0
+
+-- the number of leading one bits: how many bytes follow
+abbrev pub following : ℕ → ℕ
+following b = reached leads b
+
+-- n bytes follow b: its rest and they make the value
+abbrev pub valueOf : ℕ → ℕ → List ℕ → ℕ
+valueOf n b s = behind (b - lead n) (take n s)
+
+abbrev pub answer : ℕ → ℕ → List ℕ → VarUInt
+answer n b s = cond (ltb (length s) n) Cut (Whole (valueOf n b s) (suc n) (leb (bound n) (valueOf n b s)))
+
+-- what stands at the front
+unfoldable pub varUInt : List ℕ → VarUInt
+varUInt [] = Cut
+varUInt (b ∷ s) = answer (following b) b s
+
+-- the form with n bytes behind the first
+abbrev pub form : ℕ → ℕ → List ℕ
+form n v = (lead n + v / 256 ^ n) ∷ toBytes n v
+
+-- the minimal form
+unfoldable pub encoded : ℕ → List ℕ
+encoded v = form (reached bounds v) v
