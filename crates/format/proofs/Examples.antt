@@ -16,7 +16,7 @@ use Rattle.format.specs.Parse.{readVarUInt, fixed}
 use Rattle.format.specs.Names.{isEmpty, twins}
 use Rattle.format.specs.Payload.{front, head, payload}
 use Rattle.format.specs.Reader.{read}
-use Rattle.format.specs.Mask.{mask, names, format, strict}
+use Rattle.format.specs.Mask.{mask, namesMode, formatMode, strict}
 use Rattle.format.specs.Places.{top, meet, check}
 use Rattle.format.specs.Values.{signed}
 
@@ -44,7 +44,7 @@ examples =
     ∷ with-mask strict (0x05 ∷ 0x02 ∷ 0x02 ∷ 0x0c ∷ []) 2048
     ∷ with-mask strict (0x08 ∷ 0x80 ∷ 0x05 ∷ []) 64
     ∷ with-mask strict (0x08 ∷ 0x05 ∷ 0x00 ∷ []) 4096
-    ∷ with-mask (names + format) (0x08 ∷ 0x05 ∷ 0x00 ∷ []) 0
+    ∷ with-mask (namesMode + formatMode) (0x08 ∷ 0x05 ∷ 0x00 ∷ []) 0
     ∷ with-mask strict (0x02 ∷ 0x07 ∷ 0xc1 ∷ 0x00 ∷ 0xc8 ∷ 0x01 ∷ 0x61 ∷ 0x80 ∷ 0x05 ∷ []) 96
     ∷ []
 

@@ -9,7 +9,7 @@ use Rattle.format.specs.declared.Stop.the-variants.{Early, Unknown, TooD
 use Rattle.format.specs.declared.Form.the-variants.{Top}
 use Rattle.format.specs.Limits.{depthLimit, lengthLimit}
 use Rattle.format.specs.Kinds.{any}
-use Rattle.format.specs.Parse.{Flaw, twin, blank, long, low, wide, notText, mixed, padding, Out, fault, got}
+use Rattle.format.specs.Parse.{Flaw, twin, blank, long, low, wide, notText, notUniform, padding, Out, fault, got}
 use Rattle.format.specs.Reader.{read}
 
 abbrev pub stopValue : Stop → ℕ
@@ -26,31 +26,31 @@ flawValue long = 64
 flawValue low = 128
 flawValue wide = 256
 flawValue notText = 512
-flawValue mixed = 1024
+flawValue notUniform = 1024
 flawValue padding = 4096
 
-abbrev pub names : ℕ
-names = 1
+abbrev pub namesMode : ℕ
+namesMode = 1
 
-abbrev pub format : ℕ
-format = 2
+abbrev pub formatMode : ℕ
+formatMode = 2
 
-abbrev pub paddings : ℕ
-paddings = 4
+abbrev pub paddingMode : ℕ
+paddingMode = 4
 
 -- the mode bit under which it counts
 abbrev pub modeOf : Flaw → ℕ
-modeOf twin = names
-modeOf blank = names
-modeOf long = format
-modeOf low = format
-modeOf wide = format
-modeOf notText = format
-modeOf mixed = format
-modeOf padding = paddings
+modeOf twin = namesMode
+modeOf blank = namesMode
+modeOf long = formatMode
+modeOf low = formatMode
+modeOf wide = formatMode
+modeOf notText = formatMode
+modeOf notUniform = formatMode
+modeOf padding = paddingMode
 
 abbrev pub flaws : List Flaw
-flaws = twin ∷ blank ∷ long ∷ low ∷ wide ∷ notText ∷ mixed ∷ padding ∷ []
+flaws = twin ∷ blank ∷ long ∷ low ∷ wide ∷ notText ∷ notUniform ∷ padding ∷ []
 
 abbrev pub has : Flaw → List Flaw → Bool
 has f fs = any (λ g. eqb (flawValue f) (flawValue g)) fs
@@ -75,9 +75,9 @@ maskOf modes (got x fs r) = sumOf modes (fs ++ left r) flaws
 unfoldable pub mask : ℕ → List ℕ → ℕ
 mask modes s = cond (ltb lengthLimit (length s)) (stopValue TooLong) (maskOf modes (read depthLimit Top s))
 
--- bounds checks alone, and all three modes
-abbrev pub bounds : ℕ
-bounds = 0
+-- bounds checks always run; strict is all three modes
+abbrev pub boundsOnly : ℕ
+boundsOnly = 0
 
 abbrev pub strict : ℕ
-strict = names + format + paddings
+strict = namesMode + formatMode + paddingMode

@@ -1,4 +1,4 @@
--- Reading from the front of a list of bytes: a stopping fault; or a value, the faults of form met on the way, and what is left.
+-- Reading from the front of a list of bytes: a stopping fault; or a value, the faults met that do not stop, and what is left.
 use Prim.Native.Nat.{ℕ, zero, suc}
 use mathlib.Core.Bool.{Bool, true, false, not, cond}
 use mathlib.Core.List.{List, [], _∷_, _++_}
@@ -13,7 +13,7 @@ use Rattle.format.specs.declared.Stop.the-variants.{Early}
 -- the faults that do not stop: two equal names, an empty name, a VarUInt that is not minimal, a 09 that is too low, a Float64 that
 -- Float32 holds, bytes that are no UTF-8, a container that has to be uniform, bytes after the top field
 pub data Flaw : Type 0 where
-  twin blank long low wide notText mixed padding : Flaw
+  twin blank long low wide notText notUniform padding : Flaw
 
 pub data Out (A : Type 0) : Type 0 where
   fault : Stop → Out A

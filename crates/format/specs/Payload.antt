@@ -1,8 +1,7 @@
 -- What stands before a field's contents: its type byte and name (`front`), and its payload up to the contents (`head`). The reader and the calls
--- on places share them (document 01, "Kinds and payloads", and the order at a field, "The mask").
+-- on places share them, and the write list shares the table of payloads (document 01, "Kinds and payloads", and the order at a field, "The mask").
 use Prim.Native.Nat.{ℕ, zero, suc, _^_}
 use mathlib.Core.Bool.{Bool, true, false, not, cond}
-use mathlib.Core.Option.{Option, none, some}
 use mathlib.Core.List.{List, [], _∷_}
 use lib.Dec.{ltb}
 use lib.IntN.{pos}
@@ -105,15 +104,16 @@ payload CustomByName = leaf λ s. sized readCustomByName s
 
 -- ---- the payload up to its contents
 
--- a leaf's value; or how the fields stand, their count if one is written, and the bytes of the contents
+-- a leaf's value; or how the fields or items stand, the count of the items, and the bytes of the contents
 pub data Head : Type 0 where
   value : Leaf → Head
-  inner : Form → Option ℕ → List ℕ → Head
+  fieldsIn : Form → List ℕ → Head
+  itemsIn : Form → ℕ → List ℕ → Head
 
 abbrev pub sharedFieldsOf : Known → List ℕ → Out Head
 sharedFieldsOf Unknown s = fault S.Unknown
 sharedFieldsOf (Is k) [] = fault BadUniform
-sharedFieldsOf (Is k) (b ∷ s) = got (inner (SharedField k) none (b ∷ s)) [] []
+sharedFieldsOf (Is k) (b ∷ s) = got (fieldsIn (SharedField k) (b ∷ s)) [] []
 
 abbrev pub readSharedFields : List ℕ → Out Head
 readSharedFields [] = fault Early
@@ -122,17 +122,17 @@ readSharedFields (b ∷ s) = sharedFieldsOf (kindAt SharedByFields b) s
 abbrev pub sharedItemsOf : ℕ → Known → List ℕ → Out Head
 sharedItemsOf n Unknown s = fault S.Unknown
 sharedItemsOf zero (Is k) s = fault BadUniform
-sharedItemsOf (suc n) (Is k) s = cond (isBare k) (fault BadUniform) (got (inner (SharedItem k) (some (suc n)) s) [] [])
+sharedItemsOf (suc n) (Is k) s = cond (isBare k) (fault BadUniform) (got (itemsIn (SharedItem k) (suc n) s) [] [])
 
 abbrev pub readSharedItems : ℕ → List ℕ → Out Head
 readSharedItems n [] = fault Early
 readSharedItems n (b ∷ s) = sharedItemsOf n (kindAt SharedByItems b) s
 
 abbrev pub readFields : List ℕ → Out Head
-readFields s = got (inner Field none s) [] []
+readFields s = got (fieldsIn Field s) [] []
 
 abbrev pub readItems : List ℕ → Out Head
-readItems s = bind (readVarUInt s) λ n r. got (inner Item (some n) r) [] []
+readItems s = bind (readVarUInt s) λ n r. got (itemsIn Item n r) [] []
 
 abbrev pub headBy : Payload → List ℕ → Out Head
 headBy (leaf p) s = make value (p s)

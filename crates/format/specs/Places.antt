@@ -1,7 +1,6 @@
 -- Places, steps, views and lookup (document 01, "Places, views and values"). A place may be forged: each call checks it first.
 use Prim.Native.Nat.{ℕ, zero, suc, _+_, _-_}
 use mathlib.Core.Bool.{Bool, true, false, _||_, cond}
-use mathlib.Core.Option.{Option, none, some}
 use mathlib.Core.List.{List, [], _∷_}
 use lib.ListN.{length, drop}
 use lib.Seq.{slice}
@@ -13,7 +12,6 @@ use Rattle.text.specs.Equal.{equal}
 use Rattle.format.specs.declared.Kind.{Kind}
 use Rattle.format.specs.declared.Known.{Known}
 use Rattle.format.specs.declared.Known.the-variants.{Unknown, Is}
-use Rattle.format.specs.declared.Mark.the-variants.{OfTop}
 use Rattle.format.specs.declared.Form.{Form}
 use Rattle.format.specs.declared.Form.the-variants as Fo
 use Rattle.format.specs.declared.Stop.{Stop}
@@ -33,9 +31,9 @@ use Rattle.format.specs.declared.Found.the-variants as F
 use Rattle.format.specs.declared.Part.{Part}
 use Rattle.format.specs.declared.Part.the-variants as P
 use Rattle.format.specs.Limits.{depthLimit, lengthLimit}
-use Rattle.format.specs.Kinds.{id, kindAt, hasSize}
+use Rattle.format.specs.Kinds.{id, known, hasSize}
 use Rattle.format.specs.Parse.{Out, fault, got, bind, whole}
-use Rattle.format.specs.Payload.{Head, value, inner, front, head}
+use Rattle.format.specs.Payload.{Head, value, fieldsIn, itemsIn, front, head}
 
 -- ---- the check of a place, in its order. Its answer is the payload up to the contents
 
@@ -48,7 +46,7 @@ check s p =
     cond (ltb lengthLimit (length s)) (fault TooLong)
     (cond (ltb (p .end) (p .start) || ltb (length s) (p .end)) (fault Early)
     (cond (eqb (p .depth) 0 || ltb depthLimit (p .depth)) (fault TooDeep)
-    (payloadAt (kindAt OfTop (p .kind)) (slice (p .start) (p .end) s))))
+    (payloadAt (known (p .kind)) (slice (p .start) (p .end) s))))
 
 abbrev pub checkedOf : Out Head → Checked
 checkedOf (fault k) = C.Fault k
@@ -100,7 +98,8 @@ stepIn s c f begin at =
 abbrev pub stepFrom : List ℕ → Place → After → Out Head → Step
 stepFrom s c l (fault k) = Fault k
 stepFrom s c l (got (value v) fs r) = WrongKind
-stepFrom s c l (got (inner f n b) fs r) = stepIn s c f (c .end - length b) (from (c .end - length b) l)
+stepFrom s c l (got (fieldsIn f b) fs r) = stepIn s c f (c .end - length b) (from (c .end - length b) l)
+stepFrom s c l (got (itemsIn f n b) fs r) = stepIn s c f (c .end - length b) (from (c .end - length b) l)
 
 unfoldable pub step : List ℕ → Place → After → Step
 step s c l = stepFrom s c l (check s c)
@@ -129,7 +128,7 @@ sizeLength (Is k) s = cond (hasSize k) (taken (varUInt s)) 0
 -- a place's payload after its size if it has one
 abbrev pub partOf : List ℕ → Place → Out Head → Part
 partOf s p (fault k) = P.Fault k
-partOf s p (got h fs r) = P.At (p .start + sizeLength (kindAt OfTop (p .kind)) (slice (p .start) (p .end) s)) (p .end)
+partOf s p (got h fs r) = P.At (p .start + sizeLength (known (p .kind)) (slice (p .start) (p .end) s)) (p .end)
 
 unfoldable pub part : List ℕ → Place → Part
 part s p = partOf s p (check s p)
@@ -155,12 +154,11 @@ abbrev pub lookFrom : ℕ → List ℕ → Place → List ℕ → After → Foun
 lookFrom zero s c m l = F.NotThere
 lookFrom (suc n) s c m l = lookAt s m (λ p. lookFrom n s c m (Last p)) (step s c l)
 
--- only an object's contents have no count
 abbrev pub lookIn : List ℕ → Place → List ℕ → Out Head → Found
 lookIn s c m (fault k) = F.Fault k
 lookIn s c m (got (value v) fs r) = F.WrongKind
-lookIn s c m (got (inner f (some n) b) fs r) = F.WrongKind
-lookIn s c m (got (inner f none b) fs r) = lookFrom (suc (c .end)) s c m Start
+lookIn s c m (got (itemsIn f n b) fs r) = F.WrongKind
+lookIn s c m (got (fieldsIn f b) fs r) = lookFrom (suc (c .end)) s c m Start
 
 unfoldable pub lookup : List ℕ → Place → List ℕ → Found
 lookup s c m = lookIn s c m (check s c)

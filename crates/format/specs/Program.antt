@@ -76,7 +76,7 @@ abbrev pub printed : Outcome → List ℕ
 printed (refuse n p) = wordRefused ++ decimal 2 (refusalNumber n) ++ wordAt ++ decimal 20 p ++ lineEnd
 printed (wrote e z) = concat hexByte e ++ lineEnd
 
--- ---- the whole program. It lends 65,536 output bytes, whatever the limits are, and 16,384 work numbers
+-- ---- the whole program. It lends 65,536 output bytes and 16,384 work numbers
 abbrev pub programOf : Typed → Outcome
 programOf (typed list) = outcome 65536 16384 list
 programOf (mistyped n) = refuse BadFrame n

@@ -1,8 +1,7 @@
--- The reader: the first stopping fault in document order; or the fields as they stand, the faults of form met, and what is left
+-- The reader: the first stopping fault in document order; or the fields as they stand, the faults met that do not stop, and what is left
 -- (document 01, "The mask"). `tree` forgets which of two IDs a kind was written with ("Trees").
 use Prim.Native.Nat.{ℕ, zero, suc}
 use mathlib.Core.Bool.{Bool, true, false, _&&_}
-use mathlib.Core.Option.{none, some}
 use mathlib.Core.List.{List, [], _∷_, map}
 use lib.ListN.{length}
 use Rattle.format.specs.declared.Kind.{Kind}
@@ -10,10 +9,10 @@ use Rattle.format.specs.declared.Form.{Form}
 use Rattle.format.specs.declared.Form.the-variants.{Top, Field, Item, SharedField, SharedItem}
 use Rattle.format.specs.declared.Stop.the-variants.{TooDeep}
 use Rattle.format.specs.Kinds.{isUniform, isUniformArray}
-use Rattle.format.specs.Parse.{Out, fault, got, twin, mixed, bind, raise, make, whole, many, fill}
+use Rattle.format.specs.Parse.{Out, fault, got, twin, notUniform, bind, raise, make, whole, many, fill}
 use Rattle.format.specs.Names.{twins}
 use Rattle.format.specs.Tree.{Node, atom, array, object, Tree, mapNode}
-use Rattle.format.specs.Payload.{Head, value, inner, front, head}
+use Rattle.format.specs.Payload.{Head, value, fieldsIn, itemsIn, front, head}
 
 -- a field as it stands: its kind with its ID, and below it A; and the same with its name
 abbrev pub Standing : Type 0 → Type 0
@@ -50,16 +49,16 @@ isTyped (SharedItem k) = false
 
 -- the fields together
 abbrev pub asArray : {A : Type 0} → Form → List (Named (Standing A)) → List ℕ → Out (Node (Standing A))
-asArray f xs r = raise (isTyped f && isUniformArray (kindsIn xs)) mixed (got (array (map (λ x. x .1) xs)) [] r)
+asArray f xs r = raise (isTyped f && isUniformArray (kindsIn xs)) notUniform (got (array (map (λ x. x .1) xs)) [] r)
 
 abbrev pub asObject : {A : Type 0} → Form → List (Named (Standing A)) → List ℕ → Out (Node (Standing A))
-asObject f xs r = raise (isTyped f && isUniform (kindsIn xs)) mixed (raise (twins (namesIn xs)) twin (got (object xs) [] r))
+asObject f xs r = raise (isTyped f && isUniform (kindsIn xs)) notUniform (raise (twins (namesIn xs)) twin (got (object xs) [] r))
 
 -- counted items, or fields that fill the part
 abbrev pub contents : {A : Type 0} → Reader A → Head → Out (Node (Standing A))
 contents p (value v) = got (atom v) [] []
-contents p (inner f (some n) s) = bind (many (p f) n s) (asArray f)
-contents p (inner f none s) = bind (fill (p f) (length s) s) (asObject f)
+contents p (itemsIn f n s) = bind (many (p f) n s) (asArray f)
+contents p (fieldsIn f s) = bind (fill (p f) (length s) s) (asObject f)
 
 abbrev pub readNode : {A : Type 0} → Reader A → Kind → List ℕ → Out (Node (Standing A))
 readNode p k s = bind (head k s) λ h r. whole (contents p h) r

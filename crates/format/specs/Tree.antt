@@ -5,6 +5,7 @@ use mathlib.Core.Bool.{Bool, true, false}
 use mathlib.Core.List.{List, [], _∷_, map}
 use lib.ListN.{length}
 use lib.IntN.{ℤ, pos, negsuc}
+use Rattle.number.specs.BigEndian.{All, Bytes}
 use Rattle.text.specs.Utf8.{isText}
 use Rattle.float.specs.Width.{isNan32, isNan64}
 use Rattle.format.specs.Names.{isEmpty, twins}
@@ -39,13 +40,6 @@ abbrev pub mapNode : {A B : Type 0} → (A → B) → Node A → Node B
 mapNode f (atom v) = atom v
 mapNode f (array xs) = array (map f xs)
 mapNode f (object xs) = object (map (λ x. (x .0, f (x .1))) xs)
-
-abbrev pub All : {A : Type 0} → (A → Type 0) → List A → Type 0
-All P [] = Unit {0}
-All P (x ∷ xs) = P x × All P xs
-
-abbrev pub Bytes : List ℕ → Type 0
-Bytes s = All (λ b. b < 256) s
 
 abbrev pub BytesOf : ℕ → List ℕ → Type 0
 BytesOf n s = Bytes s × (length s ≡ n)

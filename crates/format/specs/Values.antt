@@ -17,7 +17,7 @@ use Rattle.format.specs.declared.Ticks.{Ticks}
 use Rattle.format.specs.declared.Ticks.the-variants as T
 use Rattle.format.specs.Parse.{Out, fault, got}
 use Rattle.format.specs.Tree.{Float, number, nan32, nan64, Leaf, null, bool, integer, float, binary, string, objectAttachment, binaryAttachment, hash, uuid, objectId, dateTime, timeSpan, customById, customByName}
-use Rattle.format.specs.Payload.{Head, value, inner}
+use Rattle.format.specs.Payload.{Head, value, fieldsIn, itemsIn}
 use Rattle.format.specs.Places.{check}
 
 -- what a leaf is to a call on values
@@ -48,7 +48,8 @@ sortOf (customByName n s) = other
 abbrev pub answerBy : {A : Type 0} → (Stop → A) → (Sort → A) → Out Head → A
 answerBy f g (fault k) = f k
 answerBy f g (got (value v) fs r) = g (sortOf v)
-answerBy f g (got (inner o n b) fs r) = g other
+answerBy f g (got (fieldsIn o b) fs r) = g other
+answerBy f g (got (itemsIn o n b) fs r) = g other
 
 -- ---- a number as a double, by its 64 bits
 

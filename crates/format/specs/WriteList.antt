@@ -10,10 +10,9 @@ use Rattle.text.specs.Equal.{equal}
 use Rattle.format.specs.declared.Kind.{Kind}
 use Rattle.format.specs.declared.Known.{Known}
 use Rattle.format.specs.declared.Known.the-variants.{Unknown, Is}
-use Rattle.format.specs.declared.Mark.the-variants.{OfTop}
 use Rattle.format.specs.declared.Refusal.{Refusal}
 use Rattle.format.specs.declared.Refusal.the-variants.{ListEnds, BadFrame, EmptyName, NameUsed, NotText, TooDeep, NoneOpen, Complete}
-use Rattle.format.specs.Kinds.{kindAt, any}
+use Rattle.format.specs.Kinds.{known, any}
 use Rattle.format.specs.Parse.{Out, fault, got, Flaw, blank, long, low, notText}
 use Rattle.format.specs.Names.{readName}
 use Rattle.format.specs.Mask.{has}
@@ -87,7 +86,7 @@ framePayload p f sharedItems s = refused BadFrame f
 abbrev pub frame : {A : Type 0} → FrameReader A → FrameReader (Node A)
 frame p names [] = refused ListEnds []
 frame p names (b ∷ s) =
-    next (frameKind (b ∷ s) (kindAt OfTop b) s) λ k r.
+    next (frameKind (b ∷ s) (known b) s) λ k r.
     next (frameName (b ∷ s) names r) λ n q.
     next (framePayload p (b ∷ s) (payload k) q) λ t u. framed (n, t) u
 

@@ -54,10 +54,15 @@ pub enum Form {
 
 // The stopping faults ("The mask").
 pub enum Stop {
+    // Bytes end early, a size does not fit, a counted item is missing, bytes are left; a place or a step that lies outside.
     Early,
+    // Unknown ID, or other flag bits than the place asks.
     Unknown,
+    // A field at depth 33.
     TooDeep,
+    // Input over 65,536 bytes.
     TooLong,
+    // 03 with no field; 05 with count 0 or with items of 01, 0C or 0D.
     BadUniform,
 }
 

@@ -13,18 +13,18 @@ abbrev pub reached : List ℕ → ℕ → ℕ
 reached [] b = 0
 reached (t ∷ ts) b = cond (ltb b t) 0 (suc (reached ts b))
 
--- a byte has n leading one bits at least from here on, n from 1 to 8; so these are those bits alone
+-- n leading one bits and then zeros, n from 1 to 8: the least byte with n leading one bits
 abbrev pub leads : List ℕ
 leads = 0x80 ∷ 0xc0 ∷ 0xe0 ∷ 0xf0 ∷ 0xf8 ∷ 0xfc ∷ 0xfe ∷ 0xff ∷ []
 
 abbrev pub lead : ℕ → ℕ
 lead n = getD (0 ∷ leads) n 0
 
--- n bytes hold what is below here, n from 1 to 8
+-- n bytes hold what is below 2 ^ (7 * n), n from 1 to 8
 abbrev pub bounds : List ℕ
 bounds = 2 ^ 7 ∷ 2 ^ 14 ∷ 2 ^ 21 ∷ 2 ^ 28 ∷ 2 ^ 35 ∷ 2 ^ 42 ∷ 2 ^ 49 ∷ 2 ^ 56 ∷ []
 
--- the least number that n bytes do not hold
+-- the least number that n bytes do not hold, and 0 for no byte
 abbrev pub bound : ℕ → ℕ
 bound n = getD (0 ∷ bounds) n 0
 
