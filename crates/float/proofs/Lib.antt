@@ -1,1 +1,5 @@
 pub mod Examples
+pub mod Power
+pub mod Fit
+pub mod Held
+pub mod Laws

@@ -1,1 +1,12 @@
 pub mod Examples
+pub mod Lists
+pub mod Back
+pub mod KindLaws
+pub mod TextLaws
+pub mod Leaves
+pub mod Fronts
+pub mod Layer
+pub mod RoundTrip
+pub mod Masks
+pub mod Strict
+pub mod Spelling

@@ -59,10 +59,13 @@ has f fs = any (λ g. eqb (flawValue f) (flawValue g)) fs
 abbrev pub asked : ℕ → Flaw → Bool
 asked modes f = eqb (modes / modeOf f % 2) 1
 
+abbrev pub counts : ℕ → List Flaw → Flaw → Bool
+counts modes met f = asked modes f && has f met
+
 -- the sum of those that were met and are asked, each once
 abbrev pub sumOf : ℕ → List Flaw → List Flaw → ℕ
 sumOf modes met [] = 0
-sumOf modes met (f ∷ fs) = cond (asked modes f && has f met) (flawValue f) 0 + sumOf modes met fs
+sumOf modes met (f ∷ fs) = cond (counts modes met f) (flawValue f) 0 + sumOf modes met fs
 
 abbrev pub left : List ℕ → List Flaw
 left [] = []

@@ -1,0 +1,131 @@
+-- The mask as a sum: it is 0 exactly if nothing was met that is asked, and asking for less never adds to it.
+use Prim.Native.Nat.{ℕ, zero, suc, _+_, _/_, _%_, _≤_, _<_}
+use native.Mathlib.Omega.{arith}
+use mathlib.Core.Path.{_≡_, refl, sym, ap, _∙_}
+use mathlib.Core.Bool.{Bool, true, false, _&&_, _||_, cond}
+use mathlib.Core.List.{List, [], _∷_, _++_}
+use lib.ListN.{length}
+use lib.Dec.{ltb, eqb}
+use borrow.Author.Tests.{ltb-false, le-ltb, eqb-true, eq-eqb}
+use Rattle.format.specs.declared.Stop.{Stop}
+use Rattle.format.specs.declared.Stop.the-variants.{Early, Unknown, TooDeep, TooLong, BadUniform}
+use Rattle.format.specs.declared.Form.the-variants.{Top}
+use Rattle.format.specs.Limits.{depthLimit, lengthLimit}
+use Rattle.format.specs.Parse.{Flaw, twin, blank, long, low, wide, notText, notUniform, padding, Out, fault, got}
+use Rattle.format.specs.Mask.{stopValue, flawValue, modeOf, flaws, has, asked, counts, sumOf, left, maskOf, mask, strict}
+use Rattle.format.specs.Reader.{read}
+
+-- ---- nothing met
+
+and-false : (a : Bool) → (a && false) ≡ false
+and-false true = refl
+and-false false = refl
+
+sum-none : (modes : ℕ) (fs : List Flaw) → sumOf modes [] fs ≡ 0
+sum-none modes [] = refl
+sum-none modes (f ∷ fs) = rw (and-false (asked modes f), sum-none modes fs)
+
+pub mask-clean : (modes : ℕ) → sumOf modes [] flaws ≡ 0
+mask-clean modes = sum-none modes flaws
+
+-- ---- strict, and nothing counted
+
+sum-strict : (f : Flaw) (met : List Flaw) → sumOf strict (f ∷ met) flaws ≡ 0 → ⊥
+sum-strict twin met h = omega arith
+sum-strict blank met h = omega arith
+sum-strict long met h = omega arith
+sum-strict low met h = omega arith
+sum-strict wide met h = omega arith
+sum-strict notText met h = omega arith
+sum-strict notUniform met h = omega arith
+sum-strict padding met h = omega arith
+
+pub stop-some : (k : Stop) → stopValue k ≡ 0 → ⊥
+stop-some Early h = omega arith
+stop-some Unknown h = omega arith
+stop-some TooDeep h = omega arith
+stop-some TooLong h = omega arith
+stop-some BadUniform h = omega arith
+
+pub strict-case : {A X : Type 0} (o : Out A) → maskOf strict o ≡ 0 → ((x : A) → o ≡ got x [] [] → X) → X
+strict-case (fault k) h c = absurd (stop-some k h)
+strict-case (got x [] []) h c = c x refl
+strict-case (got x [] (b ∷ r)) h c = absurd (sum-strict padding [] h)
+strict-case (got x (f ∷ fs) r) h c = absurd (sum-strict f (fs ++ left r) h)
+
+-- ---- the limit first
+
+pub mask-case : {X : Type 0} (modes : ℕ) (s : List ℕ) → mask modes s ≡ 0 → (length s ≤ lengthLimit → maskOf modes (read depthLimit Top s) ≡ 0 → X) → X
+unfolding mask
+mask-case {X} modes s h c = go (ltb lengthLimit (length s)) refl h
+  where
+    go : (x : Bool) → ltb lengthLimit (length s) ≡ x → cond x (stopValue TooLong) (maskOf modes (read depthLimit Top s)) ≡ 0 → X
+    go true e h = absurd (stop-some TooLong h)
+    go false e h = c (ltb-false lengthLimit (length s) e) h
+
+pub mask-short : (modes : ℕ) (s : List ℕ) → length s ≤ lengthLimit → mask modes s ≡ maskOf modes (read depthLimit Top s)
+unfolding mask
+mask-short modes s l = rw (le-ltb lengthLimit (length s) l)
+
+-- ---- fewer modes
+
+-- whatever `few` asks, `more` asks
+abbrev pub Fewer : ℕ → ℕ → Type 0
+Fewer few more = (f : Flaw) → asked few f ≡ true → asked more f ≡ true
+
+and-mono : (a b c : Bool) → (a ≡ true → b ≡ true) → (a && c) ≡ true → (b && c) ≡ true
+and-mono true b c f h = rw (f refl) h
+and-mono false b c f h = absurd (let z : _≡_ {A = ℕ} 0 1 = cc in omega arith)
+
+pub counts-fewer : (few more : ℕ) → Fewer few more → (met : List Flaw) (f : Flaw) → counts few met f ≡ true → counts more met f ≡ true
+counts-fewer few more w met f h = and-mono (asked few f) (asked more f) (has f met) (w f) h
+
+cond-mono : (a b : Bool) (n : ℕ) → (a ≡ true → b ≡ true) → cond a n 0 ≤ cond b n 0
+cond-mono true b n f = rw (f refl) (omega arith)
+cond-mono false b n f = omega arith
+
+sum-mono : (few more : ℕ) → Fewer few more → (met fs : List Flaw) → sumOf few met fs ≤ sumOf more met fs
+sum-mono few more w met [] = omega arith
+sum-mono few more w met (f ∷ fs) = omega (arith, cond-mono (counts few met f) (counts more met f) (flawValue f) (counts-fewer few more w met f), sum-mono few more w met fs)
+
+of-mono : {A : Type 0} (few more : ℕ) → Fewer few more → (o : Out A) → maskOf few o ≤ maskOf more o
+of-mono few more w (fault k) = omega arith
+of-mono few more w (got x fs r) = sum-mono few more w (fs ++ left r) flaws
+
+pub mask-mono : (few more : ℕ) (s : List ℕ) → Fewer few more → mask few s ≤ mask more s
+unfolding mask
+mask-mono few more s w = go (ltb lengthLimit (length s))
+  where
+    go : (x : Bool) → cond x (stopValue TooLong) (maskOf few (read depthLimit Top s)) ≤ cond x (stopValue TooLong) (maskOf more (read depthLimit Top s))
+    go true = omega arith
+    go false = of-mono few more w (read depthLimit Top s)
+
+-- ---- bounds checks alone find no flaw
+
+pub bounds-case : {A X : Type 0} (o : Out A) → maskOf 0 o ≡ 0 → ((x : A) (fs : List Flaw) (r : List ℕ) → o ≡ got x fs r → X) → X
+bounds-case (fault k) h c = absurd (stop-some k h)
+bounds-case (got x fs r) h c = c x fs r refl
+
+-- ---- other bits than the three modes
+
+sum-same : (m n : ℕ) → ((f : Flaw) → asked m f ≡ asked n f) → (met fs : List Flaw) → sumOf m met fs ≡ sumOf n met fs
+sum-same m n e met [] = refl
+sum-same m n e met (f ∷ fs) = rw (e f, sum-same m n e met fs)
+
+of-same : {A : Type 0} (m n : ℕ) → ((f : Flaw) → asked m f ≡ asked n f) → (o : Out A) → maskOf m o ≡ maskOf n o
+of-same m n e (fault k) = refl
+of-same m n e (got x fs r) = sum-same m n e (fs ++ left r) flaws
+
+bit-kept : (modes : ℕ) (f : Flaw) → modes / modeOf f % 2 ≡ modes % 8 / modeOf f % 2
+bit-kept modes twin = omega arith
+bit-kept modes blank = omega arith
+bit-kept modes long = omega arith
+bit-kept modes low = omega arith
+bit-kept modes wide = omega arith
+bit-kept modes notText = omega arith
+bit-kept modes notUniform = omega arith
+bit-kept modes padding = omega arith
+
+pub mask-bits : (modes : ℕ) (s : List ℕ) → mask modes s ≡ mask (modes % 8) s
+unfolding mask
+mask-bits modes s = rw (of-same modes (modes % 8) (λ f. ap (λ (n : ℕ). eqb n 1) (bit-kept modes f)) (read depthLimit Top s))

@@ -1,0 +1,4 @@
+pub mod BigEndianLaws
+pub mod ReachedLaws
+pub mod VarUIntLaws
+pub mod SignedLaws
