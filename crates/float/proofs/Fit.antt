@@ -1,14 +1,14 @@
 -- Which of the numbers that binary64 holds binary32 holds too: those that are an odd m below 2 ^ 24, times 2 ^ j for a j from 925 on, and that lie
 -- below 2 ^ 1202, all counted in binary64's smallest values.
-use mathlib.Core.Path.{_≡_, refl, sym, ap, _∙_, subst}
-use Prim.Native.Nat.{ℕ, zero, suc, _+_, _-_, _*_, _/_, _%_, _^_, _≤_, _<_}
-use native.Mathlib.Nat.{le-trans, le-of-eq, add-sub-cancel, mul-assoc, mul-comm, mul-right-comm, mul-lt-mul-of-pos-right, lt-of-mul-lt-mul-right, eq-of-mul-eq-mul-right}
+use mathlib.Core.Path.{_≡_, sym, ap, _∙_, subst}
+use Prim.Native.Nat.{ℕ, suc, _+_, _-_, _*_, _%_, _^_, _≤_, _<_}
+use native.Mathlib.Nat.{add-sub-cancel, mul-assoc, mul-right-comm, mul-lt-mul-of-pos-right, lt-of-mul-lt-mul-right, eq-of-mul-eq-mul-right}
 use native.Mathlib.Omega.{arith}
-use mathlib.Core.Bool.{Bool, true, false, _&&_}
+use mathlib.Core.Bool.{Bool, _&&_}
 use lib.IntN.{ℤ, pos, negsuc}
 use lib.Dec.{T, leb, ltb, eqb, eqb→eq, ltb→lt, lt→ltb, leb→le, le→leb}
 use lib.Pow.{pow-add, pow-pos, pow-mono}
-use lib.Ieee.{Format, Float, fin, prec, emax, low, up, down, fits}
+use lib.Ieee.{Format, fin, prec, emax, low, up, down, fits}
 use lib.Ieee.Fits.{and-i, and-l, and-r, eq→eqb, down-pos}
 use Rattle.float.proofs.Power.{pow-le-back}
 

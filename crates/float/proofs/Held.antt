@@ -1,20 +1,20 @@
 -- The float rule says what binary32 holds: of a sign and two fields, the test on the fields passes exactly if binary32 holds the number that they are.
-use mathlib.Core.Path.{_≡_, refl, sym, ap, _∙_, subst}
+use mathlib.Core.Path.{_≡_, sym, ap, _∙_, subst}
 use mathlib.Core.Logic.{_⊎_, inl, inr}
 use Prim.Native.Nat.{ℕ, zero, suc, _+_, _-_, _*_, _/_, _%_, _^_, _≤_, _<_}
 use native.Mathlib.Nat.{mod-lt, le-trans, le-of-suc-le-suc, lt-of-lt-of-le, le-add-right, zero-mul, mul-pos, lt-irrefl, zero-lt-suc}
 use native.Mathlib.Omega.{arith}
 use mathlib.Core.Bool.{Bool, true, false, not, _&&_, _||_, cond}
-use lib.Dec.{T, leb, ltb, eqb, eqb→eq, leb→le, le→leb, nleb→lt, eqb·suc-zero, lit≤}
+use lib.Dec.{T, leb, eqb, eqb→eq, leb→le, le→leb, nleb→lt, eqb·suc-zero, lit≤}
 use lib.Pow.{pow-pos, pow-mono, shl-lt, field}
-use lib.Ieee.{Float, nan, inf, fin, binary32, binary64, up, down, top, hid, odd, fits, isNan, ofFields, ofBits}
+use lib.Ieee.{Float, nan, inf, fin, binary32, binary64, up, top, hid, odd, fits, isNan, ofFields, ofBits}
 use lib.Ieee.Bits.{is-true, ofBits-fits, nanBits-is}
 use lib.Ieee.Digits.{Equals, odd-val}
 use lib.Ieee.Fits.{and-i, and-l, and-r, eq→eqb, cond-fits, nan-fits, inf-fits, down-pos}
 use Rattle.float.specs.Rule.{exponent, fraction, spare, holdsAt, holds}
 use Rattle.float.specs.Width.{isNan64}
 use Rattle.float.proofs.Power.{divides, divided, few, long, under, over}
-use Rattle.float.proofs.Fit.{Fit, fit-of, fits-of, Place, place, counted, least, fine-of, greatest, bounded-of}
+use Rattle.float.proofs.Fit.{Fit, fit-of, fits-of, place, counted, least, fine-of, greatest, bounded-of}
 
 or-cases : (a b : Bool) → T (a || b) → T a ⊎ T b
 or-cases true b t = inl tt
@@ -195,6 +195,9 @@ fitting s (suc k) f h n t = go (eqb (suc k) 2047) n t
 
 pub to-T : (b : Bool) → b ≡ true → T b
 to-T b e = subst (λ (c : Bool). T c) (sym e) tt
+
+pub to-not : (b : Bool) → b ≡ false → T (not b)
+to-not b e = subst (λ (c : Bool). T (not c)) (sym e) tt
 
 -- the exponent field of the rule is that of the library
 pub same-exponent : (b : ℕ) → b % top binary64 / hid binary64 ≡ exponent b

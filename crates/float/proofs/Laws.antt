@@ -1,6 +1,6 @@
 -- A float in the other width and back: what Float32 holds goes there and comes back as the same bits, and every Float32 is held. The float rule is
 -- `Held`; the rest is what the library knows of bits and numbers.
-use mathlib.Core.Path.{_≡_, refl, sym, ap, _∙_, subst}
+use mathlib.Core.Path.{_≡_, sym, ap, _∙_, subst}
 use Prim.Native.Nat.{ℕ, _^_, _<_}
 use mathlib.Core.Bool.{Bool, true, false, not, _&&_, _||_, cond}
 use lib.Dec.{T, eqb, eqb→eq}
@@ -9,10 +9,7 @@ use lib.Ieee.Bits.{is-false, ofBits-toBits, toBits-lt, ofBits-fits, toBits-ofBit
 use lib.Ieee.Fits.{and-l, and-r, fits-widens}
 use Rattle.float.specs.Rule.{exponent, fraction, holdsAt, holds}
 use Rattle.float.specs.Width.{isNan32, isNan64, widenNan, widen, narrow}
-use Rattle.float.proofs.Held.{to-T, same-exponent, held-fits, fits-held}
-
-to-not : (b : Bool) → b ≡ false → T (not b)
-to-not b e = subst (λ (c : Bool). T (not c)) (sym e) tt
+use Rattle.float.proofs.Held.{to-T, to-not, same-exponent, held-fits, fits-held}
 
 nan-fields : (e f : ℕ) → T (eqb e 2047 && not (eqb f 0)) → holdsAt e f ≡ false
 nan-fields e f t =

@@ -1,6 +1,6 @@
 -- An odd number times a power of two, written with another power: which powers of two divide it, and how large its parts are.
 use mathlib.Core.Path.{_≡_, refl, sym, ap, _∙_, subst}
-use Prim.Native.Nat.{ℕ, zero, suc, _+_, _-_, _*_, _/_, _%_, _^_, _≤_, _<_}
+use Prim.Native.Nat.{ℕ, suc, _+_, _-_, _*_, _/_, _%_, _^_, _≤_, _<_}
 use native.Mathlib.Nat.{le-trans, le-of-eq, le-of-suc-le-suc, lt-of-lt-of-le, lt-of-le-of-lt, lt-of-not-le, lt-irrefl, add-zero, one-mul, mul-assoc, mul-le-mul-left, mul-le-mul-right, mul-mod-left, lt-of-mul-lt-mul-right, eq-of-mul-eq-mul-right, div-add-mod'}
 use native.Mathlib.Omega.{arith}
 use lib.Bits.{shifted-even}

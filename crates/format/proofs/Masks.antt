@@ -11,8 +11,8 @@ use Rattle.format.specs.declared.Stop.{Stop}
 use Rattle.format.specs.declared.Stop.the-variants.{Early, Unknown, TooDeep, TooLong, BadUniform}
 use Rattle.format.specs.declared.Form.the-variants.{Top}
 use Rattle.format.specs.Limits.{depthLimit, lengthLimit}
-use Rattle.format.specs.Parse.{Flaw, twin, blank, long, low, wide, notText, notUniform, padding, Out, fault, got}
-use Rattle.format.specs.Mask.{stopValue, flawValue, modeOf, flaws, has, asked, counts, sumOf, left, maskOf, mask, strict}
+use Rattle.format.specs.Parse.{Flaw, twin, blank, long, low, wide, notText, notUniform, Out, fault, got}
+use Rattle.format.specs.Mask.{stopValue, flawValue, modeOf, flaws, has, isAsked, counts, sumOf, paddingMode, paddingOf, maskOf, mask, boundsOnly, strict}
 use Rattle.format.specs.Reader.{read}
 
 -- ---- nothing met
@@ -23,10 +23,10 @@ and-false false = refl
 
 sum-none : (modes : ℕ) (fs : List Flaw) → sumOf modes [] fs ≡ 0
 sum-none modes [] = refl
-sum-none modes (f ∷ fs) = rw (and-false (asked modes f), sum-none modes fs)
+sum-none modes (f ∷ fs) = rw (and-false (isAsked modes (modeOf f)), sum-none modes fs)
 
-pub mask-clean : (modes : ℕ) → sumOf modes [] flaws ≡ 0
-mask-clean modes = sum-none modes flaws
+pub mask-clean : (modes : ℕ) → sumOf modes [] flaws + 0 ≡ 0
+mask-clean modes = rw (sum-none modes flaws)
 
 -- ---- strict, and nothing counted
 
@@ -38,7 +38,6 @@ sum-strict low met h = omega arith
 sum-strict wide met h = omega arith
 sum-strict notText met h = omega arith
 sum-strict notUniform met h = omega arith
-sum-strict padding met h = omega arith
 
 pub stop-some : (k : Stop) → stopValue k ≡ 0 → ⊥
 stop-some Early h = omega arith
@@ -50,8 +49,8 @@ stop-some BadUniform h = omega arith
 pub strict-case : {A X : Type 0} (o : Out A) → maskOf strict o ≡ 0 → ((x : A) → o ≡ got x [] [] → X) → X
 strict-case (fault k) h c = absurd (stop-some k h)
 strict-case (got x [] []) h c = c x refl
-strict-case (got x [] (b ∷ r)) h c = absurd (sum-strict padding [] h)
-strict-case (got x (f ∷ fs) r) h c = absurd (sum-strict f (fs ++ left r) h)
+strict-case (got x [] (b ∷ r)) h c = absurd (omega arith)
+strict-case (got x (f ∷ fs) r) h c = absurd (sum-strict f fs (omega arith))
 
 -- ---- the limit first
 
@@ -71,14 +70,14 @@ mask-short modes s l = rw (le-ltb lengthLimit (length s) l)
 
 -- whatever `few` asks, `more` asks
 abbrev pub Fewer : ℕ → ℕ → Type 0
-Fewer few more = (f : Flaw) → asked few f ≡ true → asked more f ≡ true
+Fewer few more = (bit : ℕ) → isAsked few bit ≡ true → isAsked more bit ≡ true
 
 and-mono : (a b c : Bool) → (a ≡ true → b ≡ true) → (a && c) ≡ true → (b && c) ≡ true
 and-mono true b c f h = rw (f refl) h
 and-mono false b c f h = absurd (let z : _≡_ {A = ℕ} 0 1 = cc in omega arith)
 
 pub counts-fewer : (few more : ℕ) → Fewer few more → (met : List Flaw) (f : Flaw) → counts few met f ≡ true → counts more met f ≡ true
-counts-fewer few more w met f h = and-mono (asked few f) (asked more f) (has f met) (w f) h
+counts-fewer few more w met f h = and-mono (isAsked few (modeOf f)) (isAsked more (modeOf f)) (has f met) (w (modeOf f)) h
 
 cond-mono : (a b : Bool) (n : ℕ) → (a ≡ true → b ≡ true) → cond a n 0 ≤ cond b n 0
 cond-mono true b n f = rw (f refl) (omega arith)
@@ -90,7 +89,8 @@ sum-mono few more w met (f ∷ fs) = omega (arith, cond-mono (counts few met f) 
 
 of-mono : {A : Type 0} (few more : ℕ) → Fewer few more → (o : Out A) → maskOf few o ≤ maskOf more o
 of-mono few more w (fault k) = omega arith
-of-mono few more w (got x fs r) = sum-mono few more w (fs ++ left r) flaws
+of-mono few more w (got x fs []) = omega (arith, sum-mono few more w fs flaws)
+of-mono few more w (got x fs (b ∷ r)) = omega (arith, sum-mono few more w fs flaws, cond-mono (isAsked few paddingMode) (isAsked more paddingMode) 4096 (w paddingMode))
 
 pub mask-mono : (few more : ℕ) (s : List ℕ) → Fewer few more → mask few s ≤ mask more s
 unfolding mask
@@ -102,30 +102,36 @@ mask-mono few more s w = go (ltb lengthLimit (length s))
 
 -- ---- bounds checks alone find no flaw
 
-pub bounds-case : {A X : Type 0} (o : Out A) → maskOf 0 o ≡ 0 → ((x : A) (fs : List Flaw) (r : List ℕ) → o ≡ got x fs r → X) → X
+pub bounds-case : {A X : Type 0} (o : Out A) → maskOf boundsOnly o ≡ 0 → ((x : A) (fs : List Flaw) (r : List ℕ) → o ≡ got x fs r → X) → X
 bounds-case (fault k) h c = absurd (stop-some k h)
 bounds-case (got x fs r) h c = c x fs r refl
 
 -- ---- other bits than the three modes
 
-sum-same : (m n : ℕ) → ((f : Flaw) → asked m f ≡ asked n f) → (met fs : List Flaw) → sumOf m met fs ≡ sumOf n met fs
-sum-same m n e met [] = refl
-sum-same m n e met (f ∷ fs) = rw (e f, sum-same m n e met fs)
+bit-kept : (modes : ℕ) (f : Flaw) → isAsked modes (modeOf f) ≡ isAsked (modes % 8) (modeOf f)
+bit-kept modes f = ap (λ (n : ℕ). eqb n 1) (go f)
+  where
+    go : (f : Flaw) → modes / modeOf f % 2 ≡ modes % 8 / modeOf f % 2
+    go twin = omega arith
+    go blank = omega arith
+    go long = omega arith
+    go low = omega arith
+    go wide = omega arith
+    go notText = omega arith
+    go notUniform = omega arith
 
-of-same : {A : Type 0} (m n : ℕ) → ((f : Flaw) → asked m f ≡ asked n f) → (o : Out A) → maskOf m o ≡ maskOf n o
-of-same m n e (fault k) = refl
-of-same m n e (got x fs r) = sum-same m n e (fs ++ left r) flaws
+sum-kept : (modes : ℕ) (met fs : List Flaw) → sumOf modes met fs ≡ sumOf (modes % 8) met fs
+sum-kept modes met [] = refl
+sum-kept modes met (f ∷ fs) = rw (bit-kept modes f, sum-kept modes met fs)
 
-bit-kept : (modes : ℕ) (f : Flaw) → modes / modeOf f % 2 ≡ modes % 8 / modeOf f % 2
-bit-kept modes twin = omega arith
-bit-kept modes blank = omega arith
-bit-kept modes long = omega arith
-bit-kept modes low = omega arith
-bit-kept modes wide = omega arith
-bit-kept modes notText = omega arith
-bit-kept modes notUniform = omega arith
-bit-kept modes padding = omega arith
+padding-kept : (modes : ℕ) (r : List ℕ) → paddingOf modes r ≡ paddingOf (modes % 8) r
+padding-kept modes [] = refl
+padding-kept modes (b ∷ r) = let e : modes / 4 % 2 ≡ modes % 8 / 4 % 2 = omega arith in rw e
+
+of-kept : {A : Type 0} (modes : ℕ) (o : Out A) → maskOf modes o ≡ maskOf (modes % 8) o
+of-kept modes (fault k) = refl
+of-kept modes (got x fs r) = rw (sum-kept modes fs flaws, padding-kept modes r)
 
 pub mask-bits : (modes : ℕ) (s : List ℕ) → mask modes s ≡ mask (modes % 8) s
 unfolding mask
-mask-bits modes s = rw (of-same modes (modes % 8) (λ f. ap (λ (n : ℕ). eqb n 1) (bit-kept modes f)) (read depthLimit Top s))
+mask-bits modes s = rw (of-kept modes (read depthLimit Top s))

@@ -1,7 +1,7 @@
 -- The mask (document 01, "The mask").
 use Prim.Native.Nat.{ℕ, _+_, _/_, _%_}
 use mathlib.Core.Bool.{Bool, true, false, _&&_, cond}
-use mathlib.Core.List.{List, [], _∷_, _++_}
+use mathlib.Core.List.{List, [], _∷_}
 use lib.ListN.{length}
 use lib.Dec.{eqb, ltb}
 use Rattle.format.specs.declared.Stop.{Stop}
@@ -9,7 +9,7 @@ use Rattle.format.specs.declared.Stop.the-variants.{Early, Unknown, TooD
 use Rattle.format.specs.declared.Form.the-variants.{Top}
 use Rattle.format.specs.Limits.{depthLimit, lengthLimit}
 use Rattle.format.specs.Kinds.{any}
-use Rattle.format.specs.Parse.{Flaw, twin, blank, long, low, wide, notText, notUniform, padding, Out, fault, got}
+use Rattle.format.specs.Parse.{Flaw, twin, blank, long, low, wide, notText, notUniform, Out, fault, got}
 use Rattle.format.specs.Reader.{read}
 
 abbrev pub stopValue : Stop → ℕ
@@ -27,7 +27,6 @@ flawValue low = 128
 flawValue wide = 256
 flawValue notText = 512
 flawValue notUniform = 1024
-flawValue padding = 4096
 
 abbrev pub namesMode : ℕ
 namesMode = 1
@@ -47,33 +46,33 @@ modeOf low = formatMode
 modeOf wide = formatMode
 modeOf notText = formatMode
 modeOf notUniform = formatMode
-modeOf padding = paddingMode
 
 abbrev pub flaws : List Flaw
-flaws = twin ∷ blank ∷ long ∷ low ∷ wide ∷ notText ∷ notUniform ∷ padding ∷ []
+flaws = twin ∷ blank ∷ long ∷ low ∷ wide ∷ notText ∷ notUniform ∷ []
 
 abbrev pub has : Flaw → List Flaw → Bool
 has f fs = any (λ g. eqb (flawValue f) (flawValue g)) fs
 
--- other bits of the modes are ignored
-abbrev pub asked : ℕ → Flaw → Bool
-asked modes f = eqb (modes / modeOf f % 2) 1
+-- a mode's bit is set; other bits of the modes are ignored
+abbrev pub isAsked : ℕ → ℕ → Bool
+isAsked modes bit = eqb (modes / bit % 2) 1
 
 abbrev pub counts : ℕ → List Flaw → Flaw → Bool
-counts modes met f = asked modes f && has f met
+counts modes met f = isAsked modes (modeOf f) && has f met
 
 -- the sum of those that were met and are asked, each once
 abbrev pub sumOf : ℕ → List Flaw → List Flaw → ℕ
 sumOf modes met [] = 0
 sumOf modes met (f ∷ fs) = cond (counts modes met f) (flawValue f) 0 + sumOf modes met fs
 
-abbrev pub left : List ℕ → List Flaw
-left [] = []
-left (b ∷ r) = padding ∷ []
+-- bytes after the top field
+abbrev pub paddingOf : ℕ → List ℕ → ℕ
+paddingOf modes [] = 0
+paddingOf modes (b ∷ r) = cond (isAsked modes paddingMode) 4096 0
 
 abbrev pub maskOf : {A : Type 0} → ℕ → Out A → ℕ
 maskOf modes (fault k) = stopValue k
-maskOf modes (got x fs r) = sumOf modes (fs ++ left r) flaws
+maskOf modes (got x fs r) = sumOf modes fs flaws + paddingOf modes r
 
 unfoldable pub mask : ℕ → List ℕ → ℕ
 mask modes s = cond (ltb lengthLimit (length s)) (stopValue TooLong) (maskOf modes (read depthLimit Top s))

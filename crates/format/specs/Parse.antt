@@ -11,9 +11,9 @@ use Rattle.format.specs.declared.Stop.{Stop}
 use Rattle.format.specs.declared.Stop.the-variants.{Early}
 
 -- the faults that do not stop: two equal names, an empty name, a VarUInt that is not minimal, a 09 that is too low, a Float64 that
--- Float32 holds, bytes that are no UTF-8, a container that has to be uniform, bytes after the top field
+-- Float32 holds, bytes that are no UTF-8, a container that has to be uniform. (Bytes after the top field are what is left in the end.)
 pub data Flaw : Type 0 where
-  twin blank long low wide notText notUniform padding : Flaw
+  twin blank long low wide notText notUniform : Flaw
 
 pub data Out (A : Type 0) : Type 0 where
   fault : Stop → Out A

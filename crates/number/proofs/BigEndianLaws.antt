@@ -1,10 +1,12 @@
 -- Laws of big-endian numbers: bytes make a number, and the number's last bytes are these bytes again.
-use Prim.Native.Nat.{ℕ, zero, suc, _+_, _*_, _/_, _%_, _^_, _<_}
+use Prim.Native.Nat.{ℕ, zero, suc, _+_, _-_, _*_, _/_, _%_, _^_, _≤_, _<_}
+use native.Mathlib.Numerals.{add-one}
 use native.Mathlib.Omega.{arith}
 use native.Mathlib.Nat.{mod-eq-of-lt, pow-succ', add-mul-div-right, add-mul-mod-self-right}
-use mathlib.Core.Path.{_≡_, refl, ap, _∙_}
+use mathlib.Core.Path.{_≡_, refl, sym, ap, _∙_}
 use mathlib.Core.List.{List, [], _∷_}
-use lib.ListN.{length, take}
+use lib.ListN.{length, take, drop, getD}
+use lib.Seq.{drop-cons}
 use lib.Arith.{mod-mul, digits-div, digits-lt}
 use Rattle.number.specs.BigEndian.{Bytes, behind, fromBytes, toBytes}
 
@@ -66,3 +68,18 @@ pub bytes-take : (n : ℕ) (s : List ℕ) → Bytes s → Bytes (take n s)
 bytes-take zero s h = tt
 bytes-take (suc n) [] h = tt
 bytes-take (suc n) (b ∷ s) h = (h .0, bytes-take n s (h .1))
+
+pub behind-least : (s : List ℕ) (a : ℕ) → a ≤ behind a s
+behind-least [] a = omega arith
+behind-least (b ∷ s) a = omega (arith, behind-least s (a * 256 + b))
+
+-- one byte more of a part
+pub behind-step : (s : List ℕ) (a i to : ℕ) → i < to → to ≤ length s
+    → behind a (take (to - i) (drop i s)) ≡ behind (a * 256 + getD s i 0) (take (to - (i + 1)) (drop (i + 1) s))
+behind-step s a i to h l =
+    let e : to - i ≡ suc (to - (i + 1)) = omega arith in
+    rw (e, drop-cons s i 0 (omega arith), add-one i)
+
+pub behind-fits : (s : List ℕ) (a i to total : ℕ) → i < to → to ≤ length s → behind a (take (to - i) (drop i s)) ≡ total → a * 256 + getD s i 0 ≤ total
+behind-fits s a i to total h l e =
+    rw (sym (behind-step s a i to h l) ∙ e) at (behind-least (take (to - (i + 1)) (drop (i + 1) s)) (a * 256 + getD s i 0))

@@ -17,11 +17,11 @@ use Rattle.number.proofs.BigEndianLaws.{positive, to-length, to-bytes, 
 use Rattle.number.proofs.ReachedLaws.{Rising, reached-most, reached-low, reached-high, reached-at}
 
 -- the least byte with more than n leading one bits, and 256 for 8
-abbrev top : ℕ → ℕ
+abbrev pub top : ℕ → ℕ
 top n = getD leads n 256
 
 -- the least number that n bytes behind the first do not hold
-abbrev limit : ℕ → ℕ
+abbrev pub limit : ℕ → ℕ
 limit n = getD bounds n (2 ^ 64)
 
 -- a test that passes at each number below n, by computing it at all of them
@@ -44,7 +44,7 @@ module _ (n : ℕ) (h : n ≤ 8) where
   scale : limit n ≡ (top n - lead n) * 256 ^ n
   scale = eqb→eq (limit n) ((top n - lead n) * 256 ^ n) (every-at (λ k. eqb (limit k) ((top k - lead k) * 256 ^ k)) 9 tt n (omega arith))
 
-  limit-whole : limit n ≤ 2 ^ 64
+  pub limit-whole : limit n ≤ 2 ^ 64
   limit-whole = leb→le (limit n) (2 ^ 64) (every-at (λ k. leb (limit k) (2 ^ 64)) 9 tt n (omega arith))
 
   top-byte : top n ≤ 256
@@ -57,16 +57,19 @@ bounds-rise : Rising 0 bounds
 bounds-rise = omega arith
 
 -- the first byte's number of leading one bits
-record Following (n b : ℕ) : Type 0 where
-  most : n ≤ 8
-  low : lead n ≤ b
-  high : b < top n
+pub record Following (n b : ℕ) : Type 0 where
+  pub most : n ≤ 8
+  pub low : lead n ≤ b
+  pub high : b < top n
 
-following-is : (b : ℕ) → b < 256 → Following (following b) b
+pub following-is : (b : ℕ) → b < 256 → Following (following b) b
 following-is b h = record { most = reached-most leads b; low = reached-low 0 leads b (omega arith); high = reached-high leads b 256 h }
 
 is-following : (n b : ℕ) → Following n b → following b ≡ n
 is-following n b f = reached-at 0 leads n b 256 leads-rise (f .most) (f .low) (f .high)
+
+pub following-at : (n b : ℕ) → n ≤ 8 → lead n ≤ b → b < top n → n ≡ following b
+following-at n b h low high = sym (is-following n b (record { most = h; low = low; high = high }))
 
 -- how many bytes behind the first the value needs
 record Needed (n v : ℕ) : Type 0 where
@@ -80,17 +83,20 @@ needed-is v h = record { most = reached-most bounds v; low = reached-low 0 bound
 is-needed : (n v : ℕ) → Needed n v → reached bounds v ≡ n
 is-needed n v f = reached-at 0 bounds n v (2 ^ 64) bounds-rise (f .most) (f .low) (f .high)
 
+pub needed-at : (n v : ℕ) → n ≤ 8 → bound n ≤ v → v < limit n → n ≡ reached bounds v
+needed-at n v h low high = sym (is-needed n v (record { most = h; low = low; high = high }))
+
 first-byte : (n v : ℕ) → n ≤ 8 → v < limit n → Following n (lead n + v / 256 ^ n)
 first-byte n v h l =
     let q : v / 256 ^ n < top n - lead n = div-lt-iff-lt-mul (positive n) .1 (rw (scale n h) at l) in
     record { most = h; low = omega arith; high = omega arith }
 
 -- what a whole one is made of
-record Made (n b : ℕ) (s : List ℕ) (v k : ℕ) (m : Bool) : Type 0 where
-  room : n ≤ length s
-  value : v ≡ valueOf n b s
-  length-is : k ≡ suc n
-  minimal : leb (bound n) (valueOf n b s) ≡ m
+pub record Made (n b : ℕ) (s : List ℕ) (v k : ℕ) (m : Bool) : Type 0 where
+  pub room : n ≤ length s
+  pub value : v ≡ valueOf n b s
+  pub length-is : k ≡ suc n
+  pub minimal : leb (bound n) (valueOf n b s) ≡ m
 
 made : (n b : ℕ) (s : List ℕ) (v k : ℕ) (m : Bool) → answer n b s ≡ Whole v k m → Made n b s v k m
 made n b s v k m h = go (ltb (length s) n) refl h
@@ -99,7 +105,7 @@ made n b s v k m h = go (ltb (length s) n) refl h
     go true e h = let z : _≡_ {A = ℕ} 0 1 = cc in absurd (omega arith)
     go false e h = record { room = ltb-false (length s) n e; value = cc; length-is = cc; minimal = cc }
 
-answer-whole : (n b : ℕ) (s : List ℕ) → n ≤ length s → answer n b s ≡ Whole (valueOf n b s) (suc n) (leb (bound n) (valueOf n b s))
+pub answer-whole : (n b : ℕ) (s : List ℕ) → n ≤ length s → answer n b s ≡ Whole (valueOf n b s) (suc n) (leb (bound n) (valueOf n b s))
 answer-whole n b s h = rw (le-ltb (length s) n)
 
 -- the form with n bytes behind the first reads back as its value
@@ -119,13 +125,26 @@ pub encoded-length : (v : ℕ) → (1 ≤ length (encoded v)) × (length (encode
 unfolding encoded
 encoded-length v = omega (arith, to-length (reached bounds v) v, reached-most bounds v)
 
+pub needed-most : (n v : ℕ) → n ≡ reached bounds v → n ≤ 8
+needed-most n v e = omega (arith, reached-most bounds v)
+
+pub measured : (n v : ℕ) → n ≡ reached bounds v → n + 1 ≡ length (encoded v)
+unfolding encoded
+measured n v e = rw (to-length (reached bounds v) v) (omega arith)
+
+pub encoded-at : (n v : ℕ) → n ≡ reached bounds v → encoded v ≡ form n v
+unfolding encoded
+encoded-at n v e = ap (λ k. form k v) (sym e)
+
+pub encoded-first : (v : ℕ) → v < 2 ^ 64 → lead (reached bounds v) + v / 256 ^ reached bounds v < 256
+encoded-first v h = go (reached bounds v) (needed-is v h)
+  where
+    go : (n : ℕ) → Needed n v → lead n + v / 256 ^ n < 256
+    go n f = omega (arith, first-byte n v (f .most) (f .high) .high, top-byte n (f .most))
+
 pub encoded-bytes : (v : ℕ) → v < 2 ^ 64 → Bytes (encoded v)
 unfolding encoded
-encoded-bytes v h = go (reached bounds v) (needed-is v h)
-  where
-    go : (n : ℕ) → Needed n v → Bytes (form n v)
-    go n f =
-        (omega (arith, first-byte n v (f .most) (f .high) .high, top-byte n (f .most)), to-bytes n v)
+encoded-bytes v h = (encoded-first v h, to-bytes (reached bounds v) v)
 
 pub var-rt : (v : ℕ) (r : List ℕ) → v < 2 ^ 64 → varUInt (encoded v ++ r) ≡ Whole v (length (encoded v)) true
 unfolding encoded
@@ -152,7 +171,7 @@ split n b s v k m i =
 last-lt : (n : ℕ) (s : List ℕ) → Bytes s → n ≤ length s → fromBytes (take n s) < 256 ^ n
 last-lt n s w h = rw (length-take-le n s h) at (from-lt (take n s) (bytes-take n s w))
 
-below : (n b : ℕ) (s : List ℕ) (v k : ℕ) (m : Bool) → Following n b → Bytes s → Made n b s v k m → v < limit n
+pub below : (n b : ℕ) (s : List ℕ) (v k : ℕ) (m : Bool) → Following n b → Bytes s → Made n b s v k m → v < limit n
 below n b s v k m f w i =
     rw (scale n (f .most), split n b s v k m i) (digits-lt (omega (arith, f .low, f .high)) (last-lt n s w (i .room)))
 
@@ -174,10 +193,6 @@ form-is n b s v k m f w i =
     let t : toBytes n (fromBytes (take n s)) ≡ take n s = rw (length-take-le n s (i .room)) at (to-from (take n s) (bytes-take n s w)) in
     rw (d, p, q, t)
 
-encoded-is : (n v : ℕ) → Needed n v → encoded v ≡ form n v
-unfolding encoded
-encoded-is n v f = ap (λ k. form k v) (is-needed n v f)
-
 pub var-inv : (s : List ℕ) (v n : ℕ) → Bytes s → varUInt s ≡ Whole v n true → (v < 2 ^ 64) × (n ≡ length (encoded v)) × (s ≡ encoded v ++ drop n s)
 unfolding varUInt
 var-inv [] v n w h = let z : _≡_ {A = ℕ} 0 1 = cc in absurd (omega arith)
@@ -188,7 +203,7 @@ var-inv (b ∷ s) v n w h = go (following b) (following-is b (w .0)) h
         let i = made k b s v n true h in
         let l : v < limit k = below k b s v n true f (w .1) i in
         let m : bound k ≤ v = omega (arith, leb-true (bound k) (valueOf k b s) (i .minimal), i .value) in
-        let e : encoded v ≡ b ∷ take k s = encoded-is k v (record { most = f .most; low = m; high = l }) ∙ form-is k b s v n true f (w .1) i in
+        let e : encoded v ≡ b ∷ take k s = encoded-at k v (needed-at k v (f .most) m l) ∙ form-is k b s v n true f (w .1) i in
         (omega (arith, limit-whole k (f .most)), rw (e, length-take-le k s (i .room)) (i .length-is), rw (e, i .length-is) (ap (λ t. b ∷ t) (sym (take-append-drop k s))))
 
 pub var-local : (s : List ℕ) (v n : ℕ) (m : Bool) → varUInt s ≡ Whole v n m → (t : List ℕ) → varUInt (take n s ++ t) ≡ Whole v n m

@@ -1,3 +1,6 @@
 pub mod BigEndian
 pub mod VarUInt
 pub mod Signed
+pub mod Put
+pub mod Fixed
+pub mod Negative

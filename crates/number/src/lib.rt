@@ -1,4 +1,14 @@
 // Numbers (document 01, "Numbers and the VarUInt").
+ghost use mathlib.Core.Path.{_≡_};
+ghost use Prim.Native.Nat.{_+_, _-_, _/_, _^_, _≤_, _<_};
+ghost use lib.ListN.{length, take, drop};
+ghost use lib.Seq.{sets};
+ghost use Rattle.number.specs.BigEndian.{behind, toBytes};
+ghost use Rattle.number.specs.VarUInt as var;
+ghost use Rattle.number.specs.Put.{afterwards, putAt};
+ghost use Rattle.number.specs.Fixed.{fixed32, fixed64};
+ghost use Rattle.number.specs.Negative.{negative};
+ghost use Rattle.number.specs.Signed.{fromTwos};
 
 // What stands at the front of a part: a VarUInt that the part cuts off; or a whole one, with its value, how many bytes it takes,
 // and whether no shorter form holds the value.
@@ -9,4 +19,241 @@ pub enum VarUInt {
         length: usize,
         minimal: bool,
     },
+}
+
+// The position behind what was put.
+pub enum Stored {
+    Done(usize),
+    NoRoom,
+}
+
+pub enum Fixed32 {
+    Cut,
+    Whole(u32),
+}
+
+pub enum Fixed64 {
+    Cut,
+    Whole(u64),
+}
+
+pub enum Negative {
+    Is(i64),
+    OutOfRange,
+}
+
+// By the number of bytes behind the first: the least first byte, and the least value that no shorter form holds.
+const LEADS: [u8; 9] = [0, 0x80, 0xc0, 0xe0, 0xf0, 0xf8, 0xfc, 0xfe, 0xff];
+
+const BOUNDS: [u64; 9] = [
+    0,
+    0x80,
+    0x4000,
+    0x200000,
+    0x10000000,
+    0x800000000,
+    0x40000000000,
+    0x2000000000000,
+    0x100000000000000,
+];
+
+fn wide(b: u8) -> u64
+    ensures { λ r. ⌜ r ≡ b ⌝ }
+{
+    b as u64
+}
+
+fn lead(n: usize) -> u8
+    requires { ⌜ n ≤ 8 ⌝ }
+    ensures { λ r. ⌜ r ≡ var.lead n ⌝ }
+{
+    LEADS[n]
+}
+
+fn bound(n: usize) -> u64
+    requires { ⌜ n ≤ 8 ⌝ }
+    ensures { λ r. ⌜ r ≡ var.bound n ⌝ }
+{
+    BOUNDS[n]
+}
+
+// The number of leading one bits.
+fn following(b: u8) -> usize
+    ensures { λ r. ⌜ r ≡ var.following b ⌝ }
+{
+    if b < 0x80 {
+        return 0;
+    }
+    if b < 0xc0 {
+        return 1;
+    }
+    if b < 0xe0 {
+        return 2;
+    }
+    if b < 0xf0 {
+        return 3;
+    }
+    if b < 0xf8 {
+        return 4;
+    }
+    if b < 0xfc {
+        return 5;
+    }
+    if b < 0xfe {
+        return 6;
+    }
+    if b < 0xff {
+        return 7;
+    }
+    8
+}
+
+// How many bytes behind the first the minimal form of a value has.
+fn needed(v: u64) -> usize
+    ensures { λ r. ⌜ r ≡ var.reached var.bounds v ⌝ }
+{
+    if v < 0x80 {
+        return 0;
+    }
+    if v < 0x4000 {
+        return 1;
+    }
+    if v < 0x200000 {
+        return 2;
+    }
+    if v < 0x10000000 {
+        return 3;
+    }
+    if v < 0x800000000 {
+        return 4;
+    }
+    if v < 0x40000000000 {
+        return 5;
+    }
+    if v < 0x2000000000000 {
+        return 6;
+    }
+    if v < 0x100000000000000 {
+        return 7;
+    }
+    8
+}
+
+// The number that `first` and then the bytes from `from` to `to` make.
+fn gather(part: &[u8], first: u64, from: usize, to: usize) -> u64
+    requires { ⌜ (from ≤ to) × (to ≤ length (now part)) × (behind first (take (to - from) (drop from (now part))) < 2 ^ 64) ⌝ }
+    ensures { λ r. ⌜ r ≡ behind first (take (to - from) (drop from (now (part .entry)))) ⌝ }
+{
+    let mut value = first;
+    let mut i = from;
+    while i < to {
+        value = value * 256 + wide(part[i]);
+        i += 1;
+    }
+    value
+}
+
+pub fn read(part: &[u8]) -> VarUInt
+    ensures { λ r. ⌜ r ≡ var.varUInt (now (part .entry)) ⌝ }
+{
+    if part.len() == 0 {
+        return VarUInt::Cut;
+    }
+    let b = part[0];
+    if b < 0x80 {
+        return VarUInt::Whole {
+            value: wide(b),
+            length: 1,
+            minimal: true,
+        };
+    }
+    let n = following(b);
+    if part.len() <= n {
+        return VarUInt::Cut;
+    }
+    let value = gather(part, wide(b - lead(n)), 1, n + 1);
+    VarUInt::Whole {
+        value,
+        length: n + 1,
+        minimal: bound(n) <= value,
+    }
+}
+
+// How many bytes the minimal form of a value takes.
+pub fn length(v: u64) -> usize
+    ensures { λ r. ⌜ r ≡ length (var.encoded v) ⌝ }
+{
+    needed(v) + 1
+}
+
+// The last n bytes of a value, put behind `at`; the answer is what stands before them in the value.
+fn scatter(v: u64, out: &mut [u8], at: usize, n: usize) -> u64
+    requires { ⌜ at + n < length (now out) ⌝ }
+    ensures { λ r. ⌜ (r ≡ v / 256 ^ n) × (now (out .exit) ≡ sets (now (out .entry)) (at + 1) (toBytes n v)) ⌝ }
+{
+    let mut rest = v;
+    let mut i = n;
+    while 0 < i {
+        out[at + i] = (rest % 256) as u8;
+        rest = rest / 256;
+        i -= 1;
+    }
+    rest
+}
+
+// The minimal form of a value, put at `at`.
+pub fn put(v: u64, out: &mut [u8], at: usize) -> Stored
+    ensures { λ r. ⌜ afterwards r (now (out .exit)) ≡ putAt v (now (out .entry)) at ⌝ }
+{
+    let n = needed(v);
+    if out.len() <= at {
+        return Stored::NoRoom;
+    }
+    if out.len() - at <= n {
+        return Stored::NoRoom;
+    }
+    let first = wide(lead(n)) + scatter(v, out, at, n);
+    out[at] = first as u8;
+    Stored::Done(at + n + 1)
+}
+
+pub fn read32(part: &[u8]) -> Fixed32
+    ensures { λ r. ⌜ r ≡ fixed32 (now (part .entry)) ⌝ }
+{
+    if part.len() < 4 {
+        return Fixed32::Cut;
+    }
+    Fixed32::Whole(gather(part, 0, 0, 4) as u32)
+}
+
+pub fn read64(part: &[u8]) -> Fixed64
+    ensures { λ r. ⌜ r ≡ fixed64 (now (part .entry)) ⌝ }
+{
+    if part.len() < 8 {
+        return Fixed64::Cut;
+    }
+    Fixed64::Whole(gather(part, 0, 0, 8))
+}
+
+// Minus (m plus 1), exact to -2^63.
+pub fn minus_plus_one(m: u64) -> Negative
+    ensures { λ r. ⌜ r ≡ negative m ⌝ }
+{
+    if m < 0x8000000000000000 {
+        let x = m as i64;
+        Negative::Is(-x - 1)
+    } else {
+        Negative::OutOfRange
+    }
+}
+
+// Two's complement of 64 bits.
+pub fn ticks(m: u64) -> i64
+    ensures { λ r. ⌜ r ≡ fromTwos m ⌝ }
+{
+    if m < 0x8000000000000000 {
+        return m as i64;
+    }
+    let x = (0xffffffffffffffff - m) as i64;
+    -x - 1
 }

@@ -12,10 +12,10 @@ use borrow.Author.Tests.{leb-true, eq-eqb, eqb-true}
 use Rattle.text.specs.Equal.{equal}
 use Rattle.text.specs.Utf8.{Range, inRange, dueIn, characters, due, allow, textFrom, isText}
 
-never : false ≡ true → ⊥
+pub never : false ≡ true → ⊥
 never e = let z : _≡_ {A = ℕ} 0 1 = cc in omega arith
 
-and-both : (a b : Bool) → a && b ≡ true → (a ≡ true) × (b ≡ true)
+pub and-both : (a b : Bool) → a && b ≡ true → (a ≡ true) × (b ≡ true)
 and-both true true e = (refl, refl)
 and-both true false e = absurd (never e)
 and-both false b e = absurd (never e)
