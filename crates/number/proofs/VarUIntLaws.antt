@@ -1,5 +1,5 @@
 -- Laws of the VarUInt: what the minimal form reads back as, and that a minimal form that reads as a value is the value's own form.
-use Prim.Native.Nat.{ℕ, zero, suc, _+_, _-_, _*_, _/_, _^_, _≤_, _<_}
+use Prim.Native.Nat.{ℕ, zero, suc, _+_, _-_, _*_, _/_, _%_, _^_, _≤_, _<_}
 use native.Mathlib.Omega.{arith}
 use native.Mathlib.Nat.{div-add-mod', div-lt-iff-lt-mul}
 use mathlib.Core.Path.{_≡_, refl, sym, ap, _∙_}
@@ -50,6 +50,16 @@ module _ (n : ℕ) (h : n ≤ 8) where
   top-byte : top n ≤ 256
   top-byte = leb→le (top n) 256 (every-at (λ k. leb (top k) 256) 9 tt n (omega arith))
 
+-- the code's lead and bound are shifts
+pub lead-is : (n : ℕ) → n ≤ 8 → 255 - 255 / 2 ^ n ≡ lead n
+lead-is n h = eqb→eq (255 - 255 / 2 ^ n) (lead n) (every-at (λ k. eqb (255 - 255 / 2 ^ k) (lead k)) 9 tt n (omega arith))
+
+pub bound-is : (n : ℕ) → 1 ≤ n → n ≤ 8 → 1 * 2 ^ (7 * n) % 2 ^ 64 ≡ bound n
+bound-is zero l h = absurd (omega arith)
+bound-is (suc n) l h =
+    eqb→eq (1 * 2 ^ (7 * suc n) % 2 ^ 64) (bound (suc n))
+    (every-at (λ k. eqb (1 * 2 ^ (7 * suc k) % 2 ^ 64) (bound (suc k))) 8 tt n (omega arith))
+
 leads-rise : Rising 0 leads
 leads-rise = omega arith
 
@@ -70,6 +80,10 @@ is-following n b f = reached-at 0 leads n b 256 leads-rise (f .most) (f .low) (f
 
 pub following-at : (n b : ℕ) → n ≤ 8 → lead n ≤ b → b < top n → n ≡ following b
 following-at n b h low high = sym (is-following n b (record { most = h; low = low; high = high }))
+
+pub some-follow : (n b : ℕ) → Following n b → 128 ≤ b → 1 ≤ n
+some-follow zero b f h = absurd (omega (arith, f .high))
+some-follow (suc n) b f h = omega arith
 
 -- how many bytes behind the first the value needs
 record Needed (n v : ℕ) : Type 0 where

@@ -42,39 +42,26 @@ pub enum Negative {
     OutOfRange,
 }
 
-// By the number of bytes behind the first: the least first byte, and the least value that no shorter form holds.
-const LEADS: [u8; 9] = [0, 0x80, 0xc0, 0xe0, 0xf0, 0xf8, 0xfc, 0xfe, 0xff];
-
-const BOUNDS: [u64; 9] = [
-    0,
-    0x80,
-    0x4000,
-    0x200000,
-    0x10000000,
-    0x800000000,
-    0x40000000000,
-    0x2000000000000,
-    0x100000000000000,
-];
-
 fn wide(b: u8) -> u64
     ensures { λ r. ⌜ r ≡ b ⌝ }
 {
     b as u64
 }
 
-fn lead(n: usize) -> u8
+// The least first byte with n bytes behind it.
+fn lead(n: usize) -> u64
     requires { ⌜ n ≤ 8 ⌝ }
     ensures { λ r. ⌜ r ≡ var.lead n ⌝ }
 {
-    LEADS[n]
+    255 - (255 >> n)
 }
 
+// The least value that needs n bytes behind the first.
 fn bound(n: usize) -> u64
-    requires { ⌜ n ≤ 8 ⌝ }
+    requires { ⌜ (1 ≤ n) × (n ≤ 8) ⌝ }
     ensures { λ r. ⌜ r ≡ var.bound n ⌝ }
 {
-    BOUNDS[n]
+    1 << (7 * n)
 }
 
 // The number of leading one bits.
@@ -171,7 +158,7 @@ pub fn read(part: &[u8]) -> VarUInt
     if part.len() <= n {
         return VarUInt::Cut;
     }
-    let value = gather(part, wide(b - lead(n)), 1, n + 1);
+    let value = gather(part, wide(b) - lead(n), 1, n + 1);
     VarUInt::Whole {
         value,
         length: n + 1,
@@ -212,7 +199,7 @@ pub fn put(v: u64, out: &mut [u8], at: usize) -> Stored
     if out.len() - at <= n {
         return Stored::NoRoom;
     }
-    let first = wide(lead(n)) + scatter(v, out, at, n);
+    let first = lead(n) + scatter(v, out, at, n);
     out[at] = first as u8;
     Stored::Done(at + n + 1)
 }

@@ -35,11 +35,23 @@ gather-spec =
     Inv-loop
     μ-loop
     (λ c. search needs)
-    (λ c. omega (arith, behind-fits (c .before .before .before .args .part .now) (c .before .loop .value) (c .before .loop .i) (c .before .before .before .args .to) _ (omega arith) (omega arith) (c .before .loop .inv .1)))
+    (λ c.
+    let at-start = c .before .before .before .args in
+    let here = c .before .loop in
+    omega (arith, behind-fits (at-start .part .now) (here .value) (here .i) (at-start .to) _ (omega arith) (omega arith) (here .inv .1)))
     (λ c. omega arith)
     (λ c κs. search needs)
-    (λ c. omega (arith, behind-fits (c .before .before .before .before .before .args .part .now) (c .before .before .before .loop .value) (c .before .before .before .loop .i) (c .before .before .before .before .before .args .to) _ (omega arith) (omega arith) (c .before .before .before .loop .inv .1), c .wide .ensures))
+    (λ c.
+    let at-start = c .before .before .before .before .before .args in
+    let here = c .before .before .before .loop in
+    omega (arith, behind-fits (at-start .part .now) (here .value) (here .i) (at-start .to) _ (omega arith) (omega arith) (here .inv .1), c .wide .ensures))
     (λ c. omega arith)
     (λ c. omega arith)
-    (λ c. (omega arith, again (c .before .before .before .before .before .args .part .now) (c .before .before .before .loop .value) (c .wide .result) (c .before .before .before .loop .i) (c .before .before .before .before .before .args .to) _ (omega arith) (omega arith) (c .wide .ensures) (c .before .before .before .loop .inv .1)))
-    (λ c. ended (c .before .before .before .args .part .now) (c .before .loop .value) (c .before .loop .i) (c .before .before .before .args .to) _ (omega arith) (c .before .loop .inv .1)))
+    (λ c.
+    let at-start = c .before .before .before .before .before .args in
+    let here = c .before .before .before .loop in
+    (omega arith, again (at-start .part .now) (here .value) (c .wide .result) (here .i) (at-start .to) _ (omega arith) (omega arith) (c .wide .ensures) (here .inv .1)))
+    (λ c.
+    let at-start = c .before .before .before .args in
+    let here = c .before .loop in
+    ended (at-start .part .now) (here .value) (here .i) (at-start .to) _ (omega arith) (here .inv .1)))

@@ -12,16 +12,35 @@ put-spec =
     tie.close
     (tie.spec
     (λ c κs. search needs)
-    (λ c. put-none (c .before .before .before .args .v) (c .before .needed .result) (c .before .before .before .args .out .now) (c .before .before .before .args .at) (c .before .needed .ensures) (omega arith))
+    (λ c.
+    let at-start = c .before .before .before .args in
+    let n = c .before .needed in
+    put-none (at-start .v) (n .result) (at-start .out .now) (at-start .at) (n .ensures) (omega arith))
     (λ c. search needs)
-    (λ c. put-none (c .before .before .before .before .args .v) (c .before .before .needed .result) (c .before .before .before .before .args .out .now) (c .before .before .before .before .args .at) (c .before .before .needed .ensures) (omega arith))
-    (λ c κs. needed-most (c .before .before .needed .result) (c .before .before .before .before .args .v) (c .before .before .needed .ensures))
+    (λ c.
+    let at-start = c .before .before .before .before .args in
+    let n = c .before .before .needed in
+    put-none (at-start .v) (n .result) (at-start .out .now) (at-start .at) (n .ensures) (omega arith))
+    (λ c κs.
+    let at-start = c .before .before .before .before .args in
+    let n = c .before .before .needed in
+    needed-most (n .result) (at-start .v) (n .ensures))
     (λ c κs. search needs)
-    (λ c κs. search needs)
-    (λ c. omega (arith, first-fits (c .before .before .before .before .before .before .before .before .before .before .args .v) (c .before .before .before .before .before .before .before .before .needed .result) (c .before .before .before .before .before .before .before .before .before .before .fits .v .fits) (c .before .before .before .before .before .before .before .before .needed .ensures), c .before .before .before .before .before .lead .ensures, c .before .before .before .before .wide .ensures, c .before .before .scatter .ensures .0))
-    (λ c. omega (arith, first-fits (c .before .before .before .before .before .before .before .before .before .before .args .v) (c .before .before .before .before .before .before .before .before .needed .result) (c .before .before .before .before .before .before .before .before .before .before .fits .v .fits) (c .before .before .before .before .before .before .before .before .needed .ensures), c .before .before .before .before .before .lead .ensures, c .before .before .before .before .wide .ensures, c .before .before .scatter .ensures .0))
+    (λ c.
+    let start = c .before .before .before .before .before .before .before .before .before in
+    let n = c .before .before .before .before .before .before .before .needed in
+    omega (arith, first-fits (start .args .v) (n .result) (start .fits .v .fits) (n .ensures), c .before .before .before .before .lead .ensures, c .before .before .scatter .ensures .0))
+    (λ c.
+    let start = c .before .before .before .before .before .before .before .before .before in
+    let n = c .before .before .before .before .before .before .before .needed in
+    omega (arith, first-fits (start .args .v) (n .result) (start .fits .v .fits) (n .ensures), c .before .before .before .before .lead .ensures, c .before .before .scatter .ensures .0))
     (λ c. search needs)
     (λ c. search needs)
     (λ c. search needs)
     (λ c. search needs)
-    (λ c. put-done (c .before .before .before .before .before .before .before .before .before .before .args .v) (c .before .before .before .before .before .before .before .before .needed .result) (c .before .before .before .before .before .before .before .before .before .before .args .out .now) (c .before .before .before .before .before .before .before .before .before .before .args .at) (c .before .before .before .before .before .before .before .before .needed .ensures) (c .before .before .scatter .last .1 .0) (c .before .before .before .before .wide .result + c .before .before .scatter .result) (omega arith) (c .before .before .scatter .ensures .1) (omega (arith, c .before .before .before .before .before .lead .ensures, c .before .before .before .before .wide .ensures, c .before .before .scatter .ensures .0))))
+    (λ c.
+    let at-start = c .before .before .before .before .before .before .before .before .before .args in
+    let n = c .before .before .before .before .before .before .before .needed in
+    let l = c .before .before .before .before .lead in
+    let rest = c .before .before .scatter in
+    put-done (at-start .v) (n .result) (at-start .out .now) (at-start .at) (n .ensures) (rest .last .1 .0) (l .result + rest .result) (omega arith) (rest .ensures .1) (omega (arith, l .ensures, rest .ensures .0))))
