@@ -2,17 +2,17 @@
 use Prim.Native.Nat.{ℕ, _+_, _-_, _≤_, _<_}
 use native.Mathlib.Omega.{arith}
 use mathlib.Core.Path.{_≡_, refl, sym, ap, _∙_}
-use mathlib.Core.Bool.{Bool, true, false, _&&_, cond}
+use mathlib.Core.Bool.{Bool, true, false, _&&_, _||_, cond}
 use mathlib.Core.List.{List, [], _∷_, map}
 use lib.Dec.{eqb, ltb}
-use borrow.Author.Tests.{eqb-true, eq-eqb, ltb-false, le-ltb}
+use borrow.Author.Tests.{eqb-true, eq-eqb, ltb-false, lt-ltb, le-ltb}
 use Rattle.number.specs.BigEndian.{All}
 use Rattle.format.specs.declared.Kind.{Kind}
 use Rattle.format.specs.declared.Kind.the-variants.{Null, Object, UniformObject, Array, UniformArray, Binary, String, IntegerPositive, IntegerNegative, Float32, Float64, False, True, ObjectAttachment, BinaryAttachment, Hash, Uuid, DateTime, TimeSpan, ObjectId, CustomById, CustomByName}
 use Rattle.format.specs.declared.Known.{Known}
 use Rattle.format.specs.declared.Known.the-variants.{Unknown, Is}
 use Rattle.format.specs.declared.Mark.{Mark}
-use Rattle.format.specs.Kinds.{id, kinds, withId, known, flags, typeByte, kindAt, same, all}
+use Rattle.format.specs.Kinds.{id, kinds, withId, known, flags, typeByte, kindAt, same, all, isBare}
 use Rattle.format.proofs.Lists.{and-true}
 
 pub known-rt : (k : Kind) → known (id k) ≡ Is k
@@ -83,3 +83,31 @@ all-same kind k (x ∷ xs) h =
 pub same-all : {A : Type 0} (kind : A → Kind) (k : Kind) (xs : List A) → All (λ x. kind x ≡ k) xs → all (same k) (map kind xs) ≡ true
 same-all kind k [] h = refl
 same-all kind k (x ∷ xs) h = rw (h .0, eq-eqb (id k) (id k) refl) (same-all kind k xs (h .1))
+
+-- ---- by the tests of the code
+
+pub known-is : (b : ℕ) (k : Kind) → b ≡ id k → Is k ≡ known b
+known-is b k e = sym (rw e (known-rt k))
+
+pub known-none : (b : ℕ) → ((k : Kind) → b ≡ id k → ⊥) → Unknown ≡ known b
+known-none b h = go (known b) refl
+  where
+    go : (o : Known) → known b ≡ o → Unknown ≡ known b
+    go Unknown e = sym e
+    go (Is k) e = absurd (h k (known-inv b k e))
+
+pub kind-low : (m : Mark) (b f : ℕ) → f ≡ flags m → b < f → Unknown ≡ kindAt m b
+kind-low m b f e l = rw (lt-ltb b (flags m) (rw (← e) l))
+
+pub kind-high : (m : Mark) (b f : ℕ) (o : Known) → f ≡ flags m → f ≤ b → o ≡ known (b - f) → o ≡ kindAt m b
+kind-high m b f o e l h = rw (le-ltb b (flags m) (rw (← e) l), ← e) h
+
+or-assoc : (a b c : Bool) → ((a || b) || c) ≡ (a || (b || (c || false)))
+or-assoc true b c = refl
+or-assoc false true c = refl
+or-assoc false false true = refl
+or-assoc false false false = refl
+
+pub bare-is : (n : ℕ) (k : Kind) → n ≡ id k → ((eqb n 1 || eqb n 12) || eqb n 13) ≡ isBare k
+unfolding isBare
+bare-is n k e = rw e (or-assoc (eqb (id k) 1) (eqb (id k) 12) (eqb (id k) 13))

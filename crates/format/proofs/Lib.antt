@@ -9,4 +9,8 @@ pub mod Layer
 pub mod RoundTrip
 pub mod Masks
 pub mod Strict
+pub mod FaultLaws
+pub mod HeadLaws
+pub mod FrontCases
+pub mod HeadCases
 pub mod Spelling

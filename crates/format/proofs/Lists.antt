@@ -1,16 +1,23 @@
 -- Laws of lists: what holds of each element, maps, and what is put one behind the other.
-use Prim.Native.Nat.{ℕ, zero, suc, _+_, _≤_, _<_}
+use Prim.Native.Nat.{ℕ, zero, suc, _+_, _-_, _≤_, _<_}
 use native.Mathlib.Omega.{arith}
-use mathlib.Core.Path.{_≡_, refl, ap, _∙_, subst}
+use mathlib.Core.Path.{_≡_, refl, sym, ap, _∙_, subst}
 use mathlib.Core.Bool.{Bool, true, false, _&&_}
 use mathlib.Core.List.{List, [], _∷_, _++_, map}
-use lib.ListN.{length, length-append}
+use lib.ListN.{length, take, drop, length-append}
+use lib.Seq.{take-nil}
 use Rattle.number.specs.BigEndian.{All, Bytes}
 use Rattle.format.specs.Encoding.{concat}
 
 pub append-nil : {A : Type 0} (s : List A) → s ++ [] ≡ s
 append-nil [] = refl
 append-nil (x ∷ s) = ap (λ l. x ∷ l) (append-nil s)
+
+pub drop-take : {A : Type 0} (n k : ℕ) (l : List A) → drop n (take k l) ≡ take (k - n) (drop n l)
+drop-take zero k l = let q : k - 0 ≡ k = omega arith in rw q
+drop-take (suc n) zero l = let q : 0 - suc n ≡ 0 = omega arith in rw q
+drop-take (suc n) (suc k) [] = sym (take-nil (suc k - suc n))
+drop-take (suc n) (suc k) (x ∷ l) = let q : suc k - suc n ≡ k - n = omega arith in rw q (drop-take n k l)
 
 -- ---- of each element
 

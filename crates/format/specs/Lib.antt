@@ -12,3 +12,5 @@ pub mod Values
 pub mod WriteList
 pub mod Writer
 pub mod Program
+pub mod Code
+pub mod Pieces

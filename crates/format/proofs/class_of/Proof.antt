@@ -4,7 +4,7 @@ use Rattle.format.proofs.class_of.Tie as tie
 use Rattle.format.proofs.class_of.Reads as reads
 use Rattle.format.proofs.class_of.Lts as lts
 use mathlib.Core.Path.{ap, sym}
-use Rattle.format.specs.Code.{classOf}
+use Rattle.format.specs.Pieces.{classOf}
 
 pub class-of-spec : {M : Type 1} → statement M
 class-of-spec =
