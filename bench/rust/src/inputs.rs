@@ -1,0 +1,159 @@
+//! What is measured on: numbers, texts, patterns and payloads, the same in every run.
+
+use ajuqvane_tests::generate::Random;
+use ajuqvane_tests::independent::encode::encode;
+use ajuqvane_tests::independent::kinds::*;
+use ajuqvane_tests::independent::number::push_varuint;
+use ajuqvane_tests::independent::tree::{Float, Tree};
+use ajuqvane_tests::independent::LENGTH_LIMIT;
+
+const SEED: u64 = 17;
+
+/// VarUInts one after another, of every length, with the byte at which each starts.
+pub fn varuints(count: usize) -> (Vec<u8>, Vec<usize>) {
+    let mut random = Random::new(SEED, 1);
+    let (mut bytes, mut starts) = (Vec::new(), Vec::new());
+    for _ in 0..count {
+        starts.push(bytes.len());
+        let value = random.next() >> random.below(64);
+        push_varuint(&mut bytes, value);
+    }
+    (bytes, starts)
+}
+
+/// 64-bit patterns around the float rule.
+pub fn patterns(count: usize) -> Vec<u64> {
+    let mut random = Random::new(SEED, 2);
+    (0..count).map(|_| random.double_bits()).collect()
+}
+
+/// A text that repeats another up to so many bytes, cut at a character.
+fn repeated(text: &str, length: usize) -> Vec<u8> {
+    let mut whole = text.repeat(length / text.len() + 1);
+    let mut end = length;
+    while !whole.is_char_boundary(end) {
+        end -= 1;
+    }
+    whole.truncate(end);
+    whole.into_bytes()
+}
+
+pub fn ascii(length: usize) -> Vec<u8> {
+    repeated("The last is measured at the ball, the waist and the instep; the heel is set by eye. ", length)
+}
+
+pub fn european(length: usize) -> Vec<u8> {
+    repeated(
+        "Für jeden Leisten ein Maß: où l'on mesure, från tå till häl, até à ponta; každá bota má svou míru. ",
+        length,
+    )
+}
+
+pub fn cjk(length: usize) -> Vec<u8> {
+    repeated("鞋楦的長度與圍度由匠人量定靴型の寸法は職人が測る신발골의치수는장인이잰다", length)
+}
+
+fn name(text: &str) -> Vec<u8> {
+    text.as_bytes().to_vec()
+}
+
+fn integer(value: usize) -> Tree {
+    Tree::Integer(value as i128)
+}
+
+fn float32(random: &mut Random) -> Tree {
+    Tree::Float(Float::of_32((random.between(20, 400) as f32 / 8.0).to_bits()))
+}
+
+/// A manifest of lasts: nested objects, texts, attachments, measures; some 5,000 fields in about 64 KiB.
+pub fn manifest() -> Vec<u8> {
+    let mut random = Random::new(SEED, 3);
+    let makers = ["Anna Hofer", "J. Beck", "Søren Lind", "Łucja Maj"];
+    let mut lasts = Vec::new();
+    loop {
+        let number = lasts.len() + 1;
+        lasts.push(Tree::Object(vec![
+            (name("id"), integer(number)),
+            (name("name"), Tree::String(name(&format!("last {number:04}")))),
+            (name("maker"), Tree::String(name(makers[random.below(4)]))),
+            (name("note"), Tree::String(name("measured by hand at the ball and the instep"))),
+            (name("left"), Tree::Bool(number % 2 == 0)),
+            (name("size"), integer(random.between(34, 48))),
+            (name("mesh"), Tree::Fixed(BINARY_ATTACHMENT, random.bytes(20))),
+            (name("scan"), Tree::Fixed(OBJECT_ATTACHMENT, random.bytes(20))),
+            (
+                name("at"),
+                Tree::Fixed(DATE_TIME, (638_000_000_000_000_000 + random.next() % (1 << 40)).to_be_bytes().to_vec()),
+            ),
+            (
+                name("fit"),
+                Tree::Object(vec![
+                    (name("ball"), float32(&mut random)),
+                    (name("heel"), float32(&mut random)),
+                    (name("toe"), integer(random.below(90))),
+                    (name("wide"), Tree::Bool(random.below(2) == 0)),
+                ]),
+            ),
+            (name("tags"), Tree::Array(vec![Tree::String(name("oak")), Tree::Null, integer(random.below(4))])),
+        ]));
+        let tree = Tree::Object(vec![
+            (name("schema"), integer(3)),
+            (name("vault"), Tree::String(name("Leisten und Maße"))),
+            (name("lasts"), Tree::Array(lasts.clone())),
+        ]);
+        let bytes = encode(&tree).bytes;
+        if bytes.len() > LENGTH_LIMIT - 256 {
+            return bytes;
+        }
+    }
+}
+
+/// One array of Float32.
+pub fn floats(count: usize) -> Vec<u8> {
+    let mut random = Random::new(SEED, 4);
+    encode(&Tree::Array((0..count).map(|_| float32(&mut random)).collect())).bytes
+}
+
+/// One object of so many names of 14 bytes, 16 bytes a field.
+pub fn names(count: usize) -> Vec<u8> {
+    let fields = (0..count).map(|index| (name(&format!("measuring_{index:04}")), integer(index % 100)));
+    encode(&Tree::Object(fields.collect())).bytes
+}
+
+/// The most names that fit: every name of one byte, then of two, then of three, each a field that has nothing else.
+pub fn most_names(length: usize) -> Vec<u8> {
+    let mut fields: Vec<(Vec<u8>, Tree)> = Vec::new();
+    // The type byte, a size of 3 bytes, the shared byte.
+    let mut taken = 5;
+    let ones = (0..=0x7F_u32).filter_map(char::from_u32).map(|c| c.to_string());
+    let pairs = (0..0x80 * 0x80_u32).filter_map(|p| Some([char::from_u32(p / 0x80)?, char::from_u32(p % 0x80)?]));
+    let twos = (0x80..=0x7FF_u32).filter_map(char::from_u32).map(|c| c.to_string());
+    let threes = (0x800..=0xFFFF_u32).filter_map(char::from_u32).map(|c| c.to_string());
+    for text in ones.chain(pairs.map(String::from_iter)).chain(twos).chain(threes) {
+        taken += 1 + text.len();
+        if taken > length {
+            break;
+        }
+        fields.push((text.into_bytes(), Tree::Null));
+    }
+    encode(&Tree::Object(fields)).bytes
+}
+
+/// An array of chains of containers, each down to depth 32.
+pub fn deep() -> Vec<u8> {
+    let mut chains = Vec::new();
+    loop {
+        let mut chain = integer(chains.len() % 100);
+        for depth in 0..30 {
+            chain = match (chains.len() + depth) % 2 {
+                0 => Tree::Array(vec![chain]),
+                _ => Tree::Object(vec![(name("n"), chain)]),
+            };
+        }
+        chains.push(chain);
+        let bytes = encode(&Tree::Array(chains.clone())).bytes;
+        if bytes.len() > LENGTH_LIMIT - 256 {
+            return bytes;
+        }
+    }
+}

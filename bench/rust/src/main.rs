@@ -1,0 +1,161 @@
+//! bench [--tsv] [WORD..]: measures the library beside straightforward Rust, each row on the same input in the same run, and
+//! prints a table, or with --tsv a line `ROW<tab>OURS_NS<tab>RUST_NS<tab>RATIO` for each row. A row is there if the library
+//! has its call and, where words are given, its name has one of them. The exit status is 1 if the two sides of a row do not
+//! answer the same, 2 if there is no row.
+
+mod harness;
+mod inputs;
+mod plain;
+mod validator;
+
+use std::process::ExitCode;
+use std::rc::Rc;
+
+use ajuqvane_tests::library;
+use harness::{measure, Measured, Row};
+
+/// 64 KiB.
+const WHOLE: usize = 65_536;
+
+fn main() -> ExitCode {
+    let mut tsv = false;
+    let mut words = Vec::new();
+    for word in std::env::args().skip(1) {
+        match word.as_str() {
+            "--tsv" => tsv = true,
+            _ => words.push(word),
+        }
+    }
+    let mut rows = rows();
+    rows.retain(|row| words.is_empty() || words.iter().any(|word| row.name.contains(word.as_str())));
+    if rows.is_empty() {
+        eprintln!("there is no row to measure");
+        return ExitCode::from(2);
+    }
+    if !tsv {
+        println!("{:<52} {:>14} {:>14} {:>8}", "row (medians, ns)", "this library", "plain Rust", "ratio");
+    }
+    let mut wrong = false;
+    for row in rows {
+        match measure(row) {
+            Ok(measured) => print(&measured, tsv),
+            Err(difference) => {
+                eprintln!("{difference}");
+                wrong = true;
+            }
+        }
+    }
+    ExitCode::from(u8::from(wrong))
+}
+
+fn print(row: &Measured, tsv: bool) {
+    if tsv {
+        println!("{}\t{:.0}\t{:.0}\t{:.3}", row.name, row.ours, row.rust, row.ratio());
+    } else {
+        println!("{:<52} {:>14.0} {:>14.0} {:>8.2}", row.name, row.ours, row.rust, row.ratio());
+    }
+}
+
+fn rows() -> Vec<Row> {
+    let mut rows = Vec::new();
+    if library::HAS_VARUINT {
+        rows.push(varuint_row());
+    }
+    if library::HAS_IS_TEXT {
+        rows.push(text_row("UTF-8, 64 KiB of ASCII", inputs::ascii(WHOLE)));
+        rows.push(text_row("UTF-8, 64 KiB of European text", inputs::european(WHOLE)));
+        rows.push(text_row("UTF-8, 64 KiB of CJK", inputs::cjk(WHOLE)));
+    }
+    if library::HAS_FLOAT32_HOLDS {
+        rows.push(float_row());
+    }
+    if library::HAS_VALIDATE {
+        let payloads = [
+            ("manifest, 64 KiB", inputs::manifest()),
+            ("16,000 Float32", inputs::floats(16_000)),
+            ("1,000 names, 16 KiB", inputs::names(1_000)),
+            ("2,000 names, 32 KiB", inputs::names(2_000)),
+            ("4,000 names, 64 KiB", inputs::names(4_000)),
+            ("most names, 16 KiB", inputs::most_names(WHOLE / 4)),
+            ("most names, 32 KiB", inputs::most_names(WHOLE / 2)),
+            ("most names, 64 KiB", inputs::most_names(WHOLE)),
+            ("depth 32, 64 KiB", inputs::deep()),
+        ];
+        for (name, payload) in payloads {
+            let payload: Rc<[u8]> = payload.into();
+            for modes in [0, 7] {
+                rows.push(validate_row(name, modes, payload.clone()));
+            }
+            if name.starts_with("manifest") {
+                rows.push(yardstick_row(name, payload));
+            }
+        }
+    }
+    rows
+}
+
+fn varuint_row() -> Row {
+    let (bytes, starts) = inputs::varuints(10_000);
+    let (bytes, starts): (Rc<[u8]>, Rc<[usize]>) = (bytes.into(), starts.into());
+    let (our_bytes, our_starts) = (bytes.clone(), starts.clone());
+    Row {
+        name: "VarUInt, 10,000 of every length".to_string(),
+        ours: Box::new(move || {
+            let mut answer = [0; 3];
+            our_starts.iter().fold(0, |sum, start| {
+                library::varuint(&our_bytes[*start..], &mut answer);
+                sum.wrapping_add(answer[0] ^ answer[1] ^ answer[2])
+            })
+        }),
+        rust: Box::new(move || {
+            starts.iter().fold(0, |sum, start| {
+                let answer = plain::varuint(&bytes[*start..]).unwrap_or_default();
+                sum.wrapping_add(answer.0 ^ answer.1 as u64 ^ u64::from(answer.2))
+            })
+        }),
+        same: true,
+    }
+}
+
+fn text_row(name: &str, text: Vec<u8>) -> Row {
+    let text: Rc<[u8]> = text.into();
+    let our_text = text.clone();
+    Row {
+        name: name.to_string(),
+        ours: Box::new(move || library::is_text(&our_text).unwrap_or(2).into()),
+        rust: Box::new(move || plain::is_text(&text).into()),
+        same: true,
+    }
+}
+
+fn float_row() -> Row {
+    let patterns: Rc<[u64]> = inputs::patterns(10_000).into();
+    let our_patterns = patterns.clone();
+    Row {
+        name: "Float rule, 10,000 patterns".to_string(),
+        ours: Box::new(move || our_patterns.iter().map(|p| u64::from(library::float32_holds(*p).unwrap_or(2))).sum()),
+        rust: Box::new(move || patterns.iter().map(|p| u64::from(plain::float32_holds(*p))).sum()),
+        same: true,
+    }
+}
+
+fn validate_row(name: &str, modes: u32, payload: Rc<[u8]>) -> Row {
+    let our_payload = payload.clone();
+    Row {
+        name: format!("validate, modes {modes}: {name}"),
+        ours: Box::new(move || library::validate(modes, &our_payload).unwrap_or(u32::MAX).into()),
+        rust: Box::new(move || plain::validate(modes, &payload).into()),
+        same: true,
+    }
+}
+
+/// The validator beside the time to sum the bytes.
+fn yardstick_row(name: &str, payload: Rc<[u8]>) -> Row {
+    let our_payload = payload.clone();
+    Row {
+        name: format!("validate, modes 0 : sum of the bytes: {name}"),
+        ours: Box::new(move || library::validate(0, &our_payload).unwrap_or(u32::MAX).into()),
+        rust: Box::new(move || plain::sum(&payload)),
+        same: false,
+    }
+}

@@ -1,0 +1,152 @@
+/* A C program that calls the static library as the kit writes it: for x86-64 Linux, without a C library, so that the kit's
+ * clang and lld are enough to build it. It answers blocks of requests on its standard input, each a number of bytes (32 bits,
+ * little-endian as all here) and so many bytes of requests, by blocks of answers of the same form.
+ *
+ * A request is: call (8 bits), 1 if the bytes are to stand against the end of their page and not its start (8 bits), a number
+ * (64 bits), a length (32 bits), and so many bytes. An answer is four numbers of 64 bits: what was answered, and the three
+ * numbers that a VarUInt is answered by; a call that the library does not have answers ABSENT. The bytes stand between pages
+ * that cannot be touched. */
+
+typedef unsigned char u8;
+typedef unsigned int u32;
+typedef unsigned long u64;
+
+#define CALL extern __attribute__((weak))
+CALL u32 ajuqvane_validate(u32 modes, const u8 *payload, u64 length);
+CALL u32 ajuqvane_varuint(const u8 *part, u64 length, u64 *answer, u64 count);
+CALL u32 ajuqvane_is_text(const u8 *part, u64 length);
+CALL u32 ajuqvane_are_equal(const u8 *a, u64 a_length, const u8 *b, u64 b_length);
+CALL u32 ajuqvane_float32_holds(u64 bits);
+CALL u64 ajuqvane_widen(u32 bits);
+
+#define ABSENT 0xABABABABABABABABul
+#define PAGE 4096ul
+/* The longest bytes of a request and the longest block. */
+#define ROOM (32 * PAGE)
+#define BLOCK (64ul << 20)
+
+void *memcpy(void *to, const void *from, u64 count) {
+    for (u64 i = 0; i < count; i++) ((u8 *)to)[i] = ((const u8 *)from)[i];
+    return to;
+}
+
+void *memmove(void *to, const void *from, u64 count) {
+    if ((u64)to <= (u64)from) return memcpy(to, from, count);
+    for (u64 i = count; i > 0; i--) ((u8 *)to)[i - 1] = ((const u8 *)from)[i - 1];
+    return to;
+}
+
+void *memset(void *to, int value, u64 count) {
+    for (u64 i = 0; i < count; i++) ((u8 *)to)[i] = (u8)value;
+    return to;
+}
+
+int memcmp(const void *a, const void *b, u64 count) {
+    for (u64 i = 0; i < count; i++)
+        if (((const u8 *)a)[i] != ((const u8 *)b)[i]) return ((const u8 *)a)[i] - ((const u8 *)b)[i];
+    return 0;
+}
+
+int bcmp(const void *a, const void *b, u64 count) { return memcmp(a, b, count); }
+
+static long system_call(long number, u64 a, u64 b, u64 c, u64 d, u64 e, u64 f) {
+    long answer;
+    register u64 r10 __asm__("r10") = d;
+    register u64 r8 __asm__("r8") = e;
+    register u64 r9 __asm__("r9") = f;
+    __asm__ volatile("syscall"
+                     : "=a"(answer)
+                     : "a"(number), "D"(a), "S"(b), "d"(c), "r"(r10), "r"(r8), "r"(r9)
+                     : "rcx", "r11", "memory");
+    return answer;
+}
+
+static void leave(int status) {
+    for (;;) system_call(60, status, 0, 0, 0, 0, 0);
+}
+
+/* So many bytes, whole; or the program ends, well at the input's end and badly otherwise. */
+static void transfer(int number, int file, u8 *bytes, u64 count) {
+    for (u64 done = 0; done < count;) {
+        long moved = system_call(number, file, (u64)(bytes + done), count - done, 0, 0, 0);
+        if (moved <= 0) leave(number == 0 && moved == 0 && done == 0 ? 0 : 3);
+        done += (u64)moved;
+    }
+}
+
+/* Pages that can be read and written, with one on each side that cannot be touched. */
+static u8 *guarded(u64 length) {
+    long whole = system_call(9, 0, length + 2 * PAGE, 0, 0x22, (u64)-1, 0);
+    if (whole < 0) leave(4);
+    if (system_call(10, (u64)whole + PAGE, length, 3, 0, 0, 0) != 0) leave(4);
+    return (u8 *)whole + PAGE;
+}
+
+static u8 *flush(u8 *room, u64 room_length, const u8 *bytes, u64 length, u64 at_end) {
+    u8 *place = at_end ? room + room_length - length : room;
+    memcpy(place, bytes, length);
+    return place;
+}
+
+static u64 read_number(const u8 *bytes, u64 count) {
+    u64 value = 0;
+    for (u64 i = count; i > 0; i--) value = value << 8 | bytes[i - 1];
+    return value;
+}
+
+void answer_all(void) {
+    u8 *block = guarded(BLOCK), *answers = guarded(BLOCK), *room = guarded(ROOM), *other = guarded(ROOM), *last = guarded(PAGE);
+    for (;;) {
+        u8 head[4];
+        transfer(0, 0, head, 4);
+        u64 size = read_number(head, 4), at = 0, written = 4;
+        if (size > BLOCK) leave(5);
+        transfer(0, 0, block, size);
+        while (at + 14 <= size) {
+            u64 call = block[at], at_end = block[at + 1], number = read_number(block + at + 2, 8);
+            u64 length = read_number(block + at + 10, 4);
+            const u8 *bytes = block + at + 14;
+            at += 14 + length;
+            if (at > size || length > ROOM || written + 32 > BLOCK) leave(5);
+            const u8 *part = flush(room, ROOM, bytes, length, at_end);
+            u64 answer[4] = {ABSENT, 0, 0, 0};
+            switch (call) {
+            case 0:
+                if (ajuqvane_validate) answer[0] = ajuqvane_validate((u32)number, part, length);
+                break;
+            case 1:
+                if (ajuqvane_varuint) {
+                    u64 *three = (u64 *)(at_end ? last + PAGE - 24 : last);
+                    three[0] = three[1] = three[2] = 7;
+                    answer[0] = ajuqvane_varuint(part, length, three, 3);
+                    memcpy(answer + 1, three, 24);
+                }
+                break;
+            case 2:
+                if (ajuqvane_is_text) answer[0] = ajuqvane_is_text(part, length);
+                break;
+            case 3: /* the bytes before the number's, and those from it on */
+                if (number > length) leave(5);
+                if (ajuqvane_are_equal) {
+                    const u8 *a = flush(room, ROOM, bytes, number, at_end);
+                    const u8 *b = flush(other, ROOM, bytes + number, length - number, at_end);
+                    answer[0] = ajuqvane_are_equal(a, number, b, length - number);
+                }
+                break;
+            case 4:
+                if (ajuqvane_float32_holds) answer[0] = ajuqvane_float32_holds(number);
+                break;
+            case 5:
+                if (ajuqvane_widen) answer[0] = ajuqvane_widen((u32)number);
+                break;
+            default: leave(5);
+            }
+            memcpy(answers + written, answer, 32);
+            written += 32;
+        }
+        for (u64 i = 0; i < 4; i++) answers[i] = (u8)((written - 4) >> 8 * i);
+        transfer(1, 1, answers, written);
+    }
+}
+
+__asm__(".globl _start\n_start:\n  xor %ebp, %ebp\n  and $-16, %rsp\n  call answer_all\n");
