@@ -11,12 +11,7 @@ fn main() {
         println!("cargo:rustc-check-cfg=cfg(has_{call})");
     }
     println!("cargo:rerun-if-changed=build.rs");
-    // The kit's archive is for x86-64; build.sh makes one for another processor.
-    let folder = match std::env::var("CARGO_CFG_TARGET_ARCH").as_deref() {
-        Ok("x86_64") => "../../target/staticlib",
-        _ => "../../target/native",
-    };
-    let folder = PathBuf::from(env!("CARGO_MANIFEST_DIR")).join(folder);
+    let folder = PathBuf::from(env!("CARGO_MANIFEST_DIR")).join("../../target/native");
     let archive = folder.join("libcabi.a");
     println!("cargo:rerun-if-changed={}", archive.display());
     if !archive.exists() {
