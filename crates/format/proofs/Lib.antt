@@ -9,8 +9,12 @@ pub mod Layer
 pub mod RoundTrip
 pub mod Masks
 pub mod Strict
+pub mod BytesOf
 pub mod FaultLaws
 pub mod HeadLaws
 pub mod FrontCases
 pub mod HeadCases
+pub mod Local
+pub mod HeadParts
+pub mod MeetCases
 pub mod Spelling

@@ -3,6 +3,7 @@ use Prim.Native.Nat.{ℕ, zero, suc, _+_, _/_, _%_, _≤_, _<_}
 use native.Mathlib.Omega.{arith}
 use mathlib.Core.Path.{_≡_, refl, sym, ap, _∙_}
 use mathlib.Core.Bool.{Bool, true, false, _&&_, _||_, cond}
+use mathlib.Core.Logic.{_⊎_, inl, inr}
 use mathlib.Core.List.{List, [], _∷_, _++_}
 use lib.ListN.{length}
 use lib.Dec.{ltb, eqb}
@@ -12,7 +13,7 @@ use Rattle.format.specs.declared.Stop.the-variants.{Early, Unknown, TooD
 use Rattle.format.specs.declared.Form.the-variants.{Top}
 use Rattle.format.specs.Limits.{depthLimit, lengthLimit}
 use Rattle.format.specs.Parse.{Flaw, twin, blank, long, low, wide, notText, notUniform, Out, fault, got}
-use Rattle.format.specs.Mask.{stopValue, flawValue, modeOf, flaws, has, isAsked, counts, sumOf, paddingMode, paddingOf, maskOf, mask, boundsOnly, strict}
+use Rattle.format.specs.Mask.{stopValue, flawValue, modeOf, flaws, has, isAsked, counts, sumOf, paddingMode, paddingOf, maskOf, mask, Fewer, boundsOnly, strict}
 use Rattle.format.specs.Reader.{read}
 
 -- ---- nothing met
@@ -68,16 +69,21 @@ mask-short modes s l = rw (le-ltb lengthLimit (length s) l)
 
 -- ---- fewer modes
 
--- whatever `few` asks, `more` asks
-abbrev pub Fewer : ℕ → ℕ → Type 0
-Fewer few more = (bit : ℕ) → isAsked few bit ≡ true → isAsked more bit ≡ true
+fewer-at : (few more : ℕ) → Fewer few more → (f : Flaw) → isAsked few (modeOf f) ≡ true → isAsked more (modeOf f) ≡ true
+fewer-at few more w twin = w .withNames
+fewer-at few more w blank = w .withNames
+fewer-at few more w long = w .withFormat
+fewer-at few more w low = w .withFormat
+fewer-at few more w wide = w .withFormat
+fewer-at few more w notText = w .withFormat
+fewer-at few more w notUniform = w .withFormat
 
 and-mono : (a b c : Bool) → (a ≡ true → b ≡ true) → (a && c) ≡ true → (b && c) ≡ true
 and-mono true b c f h = rw (f refl) h
 and-mono false b c f h = absurd (let z : _≡_ {A = ℕ} 0 1 = cc in omega arith)
 
 pub counts-fewer : (few more : ℕ) → Fewer few more → (met : List Flaw) (f : Flaw) → counts few met f ≡ true → counts more met f ≡ true
-counts-fewer few more w met f h = and-mono (isAsked few (modeOf f)) (isAsked more (modeOf f)) (has f met) (w (modeOf f)) h
+counts-fewer few more w met f h = and-mono (isAsked few (modeOf f)) (isAsked more (modeOf f)) (has f met) (fewer-at few more w f) h
 
 cond-mono : (a b : Bool) (n : ℕ) → (a ≡ true → b ≡ true) → cond a n 0 ≤ cond b n 0
 cond-mono true b n f = rw (f refl) (omega arith)
@@ -90,7 +96,7 @@ sum-mono few more w met (f ∷ fs) = omega (arith, cond-mono (counts few met f) 
 of-mono : {A : Type 0} (few more : ℕ) → Fewer few more → (o : Out A) → maskOf few o ≤ maskOf more o
 of-mono few more w (fault k) = omega arith
 of-mono few more w (got x fs []) = omega (arith, sum-mono few more w fs flaws)
-of-mono few more w (got x fs (b ∷ r)) = omega (arith, sum-mono few more w fs flaws, cond-mono (isAsked few paddingMode) (isAsked more paddingMode) 4096 (w paddingMode))
+of-mono few more w (got x fs (b ∷ r)) = omega (arith, sum-mono few more w fs flaws, cond-mono (isAsked few paddingMode) (isAsked more paddingMode) 4096 (w .withPadding))
 
 pub mask-mono : (few more : ℕ) (s : List ℕ) → Fewer few more → mask few s ≤ mask more s
 unfolding mask
@@ -100,7 +106,7 @@ mask-mono few more s w = go (ltb lengthLimit (length s))
     go true = omega arith
     go false = of-mono few more w (read depthLimit Top s)
 
--- ---- bounds checks alone find no flaw
+-- ---- what bounds checks alone pass was read, or stopped
 
 pub bounds-case : {A X : Type 0} (o : Out A) → maskOf boundsOnly o ≡ 0 → ((x : A) (fs : List Flaw) (r : List ℕ) → o ≡ got x fs r → X) → X
 bounds-case (fault k) h c = absurd (stop-some k h)
@@ -135,3 +141,34 @@ of-kept modes (got x fs r) = rw (sum-kept modes fs flaws, padding-kept modes r)
 pub mask-bits : (modes : ℕ) (s : List ℕ) → mask modes s ≡ mask (modes % 8) s
 unfolding mask
 mask-bits modes s = rw (of-kept modes (read depthLimit Top s))
+
+-- ---- what the mask is made of
+
+-- one stopping fault, or one sum, whatever the modes
+pub mask-made : (s : List ℕ)
+    → ((k : Stop) × ((modes : ℕ) → mask modes s ≡ stopValue k)) ⊎ ((met : List Flaw) × (left : List ℕ) × ((modes : ℕ) → mask modes s ≡ sumOf modes met flaws + paddingOf modes left))
+unfolding mask
+mask-made s = long-or (ltb lengthLimit (length s)) refl
+  where
+    read-or : (o : Out _) → read depthLimit Top s ≡ o → ltb lengthLimit (length s) ≡ false
+        → ((k : Stop) × ((modes : ℕ) → cond (ltb lengthLimit (length s)) (stopValue TooLong) (maskOf modes (read depthLimit Top s)) ≡ stopValue k))
+        ⊎ ((met : List Flaw) × (left : List ℕ) × ((modes : ℕ) → cond (ltb lengthLimit (length s)) (stopValue TooLong) (maskOf modes (read depthLimit Top s)) ≡ sumOf modes met flaws + paddingOf modes left))
+    read-or (fault k) e l = inl (k, λ modes. rw (l, e))
+    read-or (got x fs r) e l = inr (fs, r, λ modes. rw (l, e))
+
+    long-or : (b : Bool) → ltb lengthLimit (length s) ≡ b
+        → ((k : Stop) × ((modes : ℕ) → cond (ltb lengthLimit (length s)) (stopValue TooLong) (maskOf modes (read depthLimit Top s)) ≡ stopValue k))
+        ⊎ ((met : List Flaw) × (left : List ℕ) × ((modes : ℕ) → cond (ltb lengthLimit (length s)) (stopValue TooLong) (maskOf modes (read depthLimit Top s)) ≡ sumOf modes met flaws + paddingOf modes left))
+    long-or true l = inl (TooLong, λ modes. rw l)
+    long-or false l = read-or (read depthLimit Top s) refl l
+
+sum-bounds : (met : List Flaw) (left : List ℕ) → sumOf boundsOnly met flaws + paddingOf boundsOnly left ≡ 0
+sum-bounds met [] = refl
+sum-bounds met (b ∷ r) = refl
+
+pub stop-same : (s : List ℕ) → (mask boundsOnly s ≡ 0 → ⊥) → (modes : ℕ) → mask modes s ≡ mask boundsOnly s
+stop-same s h modes = go (mask-made s)
+  where
+    go : ((k : Stop) × ((modes : ℕ) → mask modes s ≡ stopValue k)) ⊎ ((met : List Flaw) × (left : List ℕ) × ((modes : ℕ) → mask modes s ≡ sumOf modes met flaws + paddingOf modes left)) → mask modes s ≡ mask boundsOnly s
+    go (inl i) = i .1 modes ∙ sym (i .1 boundsOnly)
+    go (inr i) = absurd (h (i .2 boundsOnly ∙ sum-bounds (i .0) (i .1)))

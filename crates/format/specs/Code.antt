@@ -12,7 +12,9 @@ use Rattle.format.specs.declared.Front.{Front}
 use Rattle.format.specs.declared.Front.the-variants as F
 use Rattle.format.specs.declared.Heading.{Heading}
 use Rattle.format.specs.declared.Heading.the-variants as H
-use Rattle.format.specs.Parse.{Flaw, twin, blank, long, low, wide, notText, notUniform, Out, fault, got}
+use Rattle.format.specs.declared.Met.{Met}
+use Rattle.format.specs.declared.Met.the-variants as M
+use Rattle.format.specs.Parse.{Flaw, twin, blank, long, low, wide, notText, notUniform, Out, fault, got, bind, make}
 use Rattle.format.specs.Mask.{has}
 use Rattle.format.specs.Payload.{front, Head, value, fieldsIn, itemsIn, head}
 
@@ -52,3 +54,19 @@ headingOf (itemsIn f n b) h e = H.Items f n (e - length b) e h
 
 unfoldable pub headAt : Kind → Modes → Faults → List ℕ → Heading
 headAt k m g s = answerOf H.Stop (λ x h r. headingOf x h (length s - length r)) m g (head k s)
+
+-- a field up to its contents: what was met is its name and kind, its payload and what follows, and the payload's head
+abbrev pub meeting : Form → List ℕ → Out ((List ℕ × Kind) × (List ℕ × Head))
+meeting f s = bind (front f s) λ x r. make (λ h. (x, (r, h))) (head (x .1) r)
+
+abbrev pub metOf : Kind → ℕ → ℕ → Head → Faults → ℕ → Met
+metOf k a b (value v) h e = M.Leaf k a b e h
+metOf k a b (fieldsIn f c) h e = M.Fields k a b f (e - length c) e h
+metOf k a b (itemsIn f n c) h e = M.Items k a b f n (e - length c) e h
+
+-- in a part of n bytes
+abbrev pub metIn : ℕ → (List ℕ × Kind) × (List ℕ × Head) → Faults → List ℕ → Met
+metIn n x h q = metOf (x .0 .1) (n - length (x .1 .0) - length (x .0 .0)) (n - length (x .1 .0)) (x .1 .1) h (n - length q)
+
+unfoldable pub meetAt : Form → Modes → Faults → List ℕ → Met
+meetAt f m g s = answerOf M.Stop (metIn (length s)) m g (meeting f s)

@@ -1,5 +1,6 @@
 -- The mask (document 01, "The mask").
 use Prim.Native.Nat.{ℕ, _+_, _/_, _%_}
+use mathlib.Core.Path.{_≡_}
 use mathlib.Core.Bool.{Bool, true, false, _&&_, cond}
 use mathlib.Core.List.{List, [], _∷_}
 use lib.ListN.{length}
@@ -76,6 +77,12 @@ maskOf modes (got x fs r) = sumOf modes fs flaws + paddingOf modes r
 
 unfoldable pub mask : ℕ → List ℕ → ℕ
 mask modes s = cond (ltb lengthLimit (length s)) (stopValue TooLong) (maskOf modes (read depthLimit Top s))
+
+-- whatever `few` asks, `more` asks
+pub record Fewer (few more : ℕ) : Type 0 where
+  pub withNames : isAsked few namesMode ≡ true → isAsked more namesMode ≡ true
+  pub withFormat : isAsked few formatMode ≡ true → isAsked more formatMode ≡ true
+  pub withPadding : isAsked few paddingMode ≡ true → isAsked more paddingMode ≡ true
 
 -- bounds checks always run; strict is all three modes
 abbrev pub boundsOnly : ℕ

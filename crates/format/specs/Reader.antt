@@ -1,15 +1,16 @@
 -- The reader: the first stopping fault in document order; or the fields as they stand, the faults met that do not stop, and what is left
 -- (document 01, "The mask"). `tree` forgets which of two IDs a kind was written with ("Trees").
 use Prim.Native.Nat.{ℕ, zero, suc}
-use mathlib.Core.Bool.{Bool, true, false, _&&_}
+use mathlib.Core.Bool.{Bool, true, false, _&&_, cond}
 use mathlib.Core.Option.{Option, none, some}
 use mathlib.Core.List.{List, [], _∷_, map}
 use lib.ListN.{length}
+use lib.Dec.{ltb}
 use Rattle.format.specs.declared.Kind.{Kind}
 use Rattle.format.specs.declared.Form.{Form}
 use Rattle.format.specs.declared.Form.the-variants.{Top, Field, Item, SharedField, SharedItem}
 use Rattle.format.specs.declared.Stop.the-variants.{TooDeep}
-use Rattle.format.specs.Limits.{depthLimit}
+use Rattle.format.specs.Limits.{depthLimit, lengthLimit}
 use Rattle.format.specs.Kinds.{isUniform, isUniformArray}
 use Rattle.format.specs.Parse.{Out, fault, got, twin, notUniform, bind, raise, make, whole, many, fill}
 use Rattle.format.specs.Names.{twins}
@@ -73,10 +74,10 @@ unfoldable pub read : (d : ℕ) → Reader (Layout d)
 read zero f s = fault TooDeep
 read (suc d) f s = readField (read d) f s
 
--- the tree of a payload, where no fault stops the reader. Bytes after the top field are no part of it
+-- the tree of a payload within the limit, where no fault stops the reader. Bytes after the top field are no part of it
 abbrev pub treeIn : Out (Named (Standing (Layout depthLimit))) → Option (Tree depthLimit)
 treeIn (fault k) = none
 treeIn (got x fs r) = some (tree depthLimit (x .1 .1))
 
 unfoldable pub treeOf : List ℕ → Option (Tree depthLimit)
-treeOf s = treeIn (read depthLimit Top s)
+treeOf s = cond (ltb lengthLimit (length s)) none (treeIn (read depthLimit Top s))

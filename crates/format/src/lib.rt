@@ -8,7 +8,7 @@ ghost use lib.ListN.{length, take, drop};
 ghost use Rattle.number.specs.VarUInt.{varUInt};
 ghost use Rattle.format.specs.Kinds.{id, known, flags, kindAt, isBare};
 ghost use Rattle.format.specs.Parse.{blank, long, low, wide, notText};
-ghost use Rattle.format.specs.Code.{noted, flawIf, frontAt, headAt};
+ghost use Rattle.format.specs.Code.{noted, flawIf, frontAt, headAt, meetAt};
 ghost use Rattle.format.specs.Pieces.{between, typedAt, spanAt, textAt, namedAt, plainOf, classOf, fixedAt, positiveOf, negativeOf, doubleAt, leafOf, idOf, nameOf, countOf, sharedFieldsOf, sharedItemsOf, sharedCountOf, insideOf};
 
 // The kinds of a field ("Kinds and payloads").
@@ -228,6 +228,38 @@ pub enum Heading {
         faults: Faults,
     },
     Items {
+        form: Form,
+        count: u64,
+        begin: usize,
+        end: usize,
+        faults: Faults,
+    },
+}
+
+// A field up to its contents: its kind, the start of its name, and where its payload starts and ends; and of a container how the fields or
+// items stand, how many items are counted, and where the contents begin (they end with the payload).
+pub enum Met {
+    Stop(Stop),
+    Leaf {
+        kind: Kind,
+        name: usize,
+        start: usize,
+        end: usize,
+        faults: Faults,
+    },
+    Fields {
+        kind: Kind,
+        name: usize,
+        start: usize,
+        form: Form,
+        begin: usize,
+        end: usize,
+        faults: Faults,
+    },
+    Items {
+        kind: Kind,
+        name: usize,
+        start: usize,
         form: Form,
         count: u64,
         begin: usize,
@@ -835,5 +867,59 @@ pub fn head_of(part: &[u8], kind: Kind, modes: Modes, faults: Faults) -> Heading
         Class::Negative => negative(part, modes, faults),
         Class::Wide => float64(part, modes, faults),
         Class::Behind(inner) => behind(part, inner, modes, faults),
+    }
+}
+
+// A field up to its contents, at the front of a part, beside the faults met before.
+pub fn meet_of(part: &[u8], form: Form, modes: Modes, faults: Faults) -> Met
+    ensures { λ r. ⌜ r ≡ meetAt form modes faults (now (part .entry)) ⌝ }
+{
+    match front_of(part, form, modes, faults) {
+        Front::Stop(stop) => Met::Stop(stop),
+        Front::Read {
+            kind,
+            name,
+            start,
+            faults: before,
+        } => match head_of(&part[start..], kind, modes, before) {
+            Heading::Stop(stop) => Met::Stop(stop),
+            Heading::Leaf { end, faults: met } => Met::Leaf {
+                kind: kind,
+                name: name,
+                start: start,
+                end: start + end,
+                faults: met,
+            },
+            Heading::Fields {
+                form: inner,
+                begin,
+                end,
+                faults: met,
+            } => Met::Fields {
+                kind: kind,
+                name: name,
+                start: start,
+                form: inner,
+                begin: start + begin,
+                end: start + end,
+                faults: met,
+            },
+            Heading::Items {
+                form: inner,
+                count,
+                begin,
+                end,
+                faults: met,
+            } => Met::Items {
+                kind: kind,
+                name: name,
+                start: start,
+                form: inner,
+                count: count,
+                begin: start + begin,
+                end: start + end,
+                faults: met,
+            },
+        },
     }
 }
