@@ -96,6 +96,13 @@ text-unasked m g false e = noted-none m g
 text-unasked m g true e =
     rw e (same-faults _ _ (sym (keep (g .twin) (m .names))) (sym (keep (g .blank) (m .names))) (none (g .long) false) (none (g .low) false) (none (g .wide) false) (none (g .text) true) (none (g .uniform) false))
 
+pub unasked-twin : (m : Modes) (g : Faults) (x : Bool) → m .names ≡ false → noted m g (flawIf x twin) ≡ g
+unfolding noted
+unasked-twin m g false e = noted-none m g
+unasked-twin m g true e =
+    rw e (same-faults _ _ (none (g .twin) true) (none (g .blank) false) (sym (keep (g .long) (m .format))) (sym (keep (g .low) (m .format))) (sym (keep (g .wide) (m .format))) (sym (keep (g .text) (m .format)))
+    (sym (keep (g .uniform) (m .format))))
+
 has-append : (f : Flaw) (fs gs : List Flaw) → has f (fs ++ gs) ≡ (has f fs || has f gs)
 has-append f [] gs = refl
 has-append f (h ∷ fs) gs = rw (has-append f fs gs) (assoc (eqb (flawValue f) (flawValue h)) (has f fs) (has f gs))

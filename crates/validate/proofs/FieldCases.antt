@@ -1,0 +1,214 @@
+-- A field: what the code knows at each return, from what was met and from the answer of its contents.
+use Prim.Native.Nat.{ℕ, zero, suc, _+_, _-_, _≤_, _<_}
+use native.Mathlib.Omega.{arith}
+use mathlib.Core.Path.{_≡_, refl, sym, ap, _∙_}
+use mathlib.Core.List.{List, [], _∷_, _++_, append-assoc}
+use lib.ListN.{length, take, drop, length-append}
+use lib.Seq.{drop-append-seam, take-append-seam}
+use Rattle.format.specs.declared.Kind.{Kind}
+use Rattle.format.specs.declared.Form.{Form}
+use Rattle.format.specs.declared.Stop.{Stop}
+use Rattle.format.specs.declared.Stop.the-variants.{TooDeep}
+use Rattle.format.specs.declared.Modes.{Modes}
+use Rattle.format.specs.declared.Faults.{Faults}
+use Rattle.format.specs.declared.Met.{Met}
+use Rattle.format.specs.declared.Met.the-variants as M
+use Rattle.format.specs.Parse.{Flaw, Out, fault, got, withFlaws, bind, make, whole}
+use Rattle.format.specs.Payload.{front, Head, value, fieldsIn, itemsIn, head}
+use Rattle.format.specs.Tree.{Node, atom}
+use Rattle.format.specs.Reader.{Standing, Named, Reader, Layout, read, readField, contents}
+use Rattle.format.specs.Code.{noted, answerOf, meeting, metOf, metIn, meetAt}
+use Rattle.format.specs.Pieces.{between}
+use Rattle.format.proofs.Local.{bind-got}
+use Rattle.format.proofs.HeadParts.{front-takes, head-body, Body}
+use Rattle.format.proofs.HeadLaws.{answer-make}
+use Rattle.format.proofs.FaultLaws.{noted-none, answer-flaws, answer-bind}
+use Rattle.validate.specs.declared.Field.{Field}
+use Rattle.validate.specs.declared.Field.the-variants as F
+use Rattle.validate.specs.declared.Contents.{Contents}
+use Rattle.validate.specs.declared.Contents.the-variants as C
+use Rattle.validate.specs.Checks.{fieldAt, contentsAt, closed}
+
+pub field-deep : (f : Form) (m : Modes) (g : Faults) (s : List ℕ) (d : ℕ) → d ≡ 0 → F.Stop TooDeep ≡ fieldAt f m d g s
+unfolding fieldAt read
+field-deep f m g s d e = rw e
+
+-- ---- a field is what was met, and its contents
+
+abbrev Meeting : Type 0
+Meeting = (List ℕ × Kind) × (List ℕ × Head)
+
+abbrev read-met : {A : Type 0} → Reader A → Meeting → List ℕ → Out (Named (Standing (Node (Standing A))))
+read-met p y q = make (λ t. (y .0 .0, (y .0 .1, t))) (whole (contents p (y .1 .1)) q)
+
+module _ {A : Type 0} (p : Reader A) (m : Modes) (go : Named (Standing (Node (Standing A))) → Faults → List ℕ → Field) where
+  field-met : (g : Faults) (f : Form) (s : List ℕ)
+      → answerOf F.Stop go m g (readField p f s) ≡ answerOf F.Stop (λ y h q. answerOf F.Stop go m h (read-met p y q)) m g (meeting f s)
+  field-met g f s = by-front (front f s)
+    where
+      by-head : (x : List ℕ × Kind) (r : List ℕ) (e : Faults) (o : Out Head)
+          → answerOf F.Stop go m e (make (λ t. (x .0, (x .1, t))) (bind o λ h q. whole (contents p h) q))
+          ≡ answerOf F.Stop (λ y h q. answerOf F.Stop go m h (read-met p y q)) m e (make (λ h. (x, (r, h))) o)
+      by-head x r e (fault k) = refl
+      by-head x r e (got h fs q) =
+          rw (
+            answer-make F.Stop go m e (λ t. (x .0, (x .1, t))) (withFlaws fs (whole (contents p h) q)),
+            answer-flaws F.Stop (λ t. go (x .0, (x .1, t))) m e fs (whole (contents p h) q),
+            answer-make F.Stop (λ y h q. answerOf F.Stop go m h (read-met p y q)) m e (λ h. (x, (r, h))) (got h fs q),
+          )
+          (sym (answer-make F.Stop go m (noted m e fs) (λ t. (x .0, (x .1, t))) (whole (contents p h) q)))
+
+      by-front : (o : Out (List ℕ × Kind))
+          → answerOf F.Stop go m g (bind o λ x r. make (λ t. (x .0, (x .1, t))) (bind (head (x .1) r) λ h q. whole (contents p h) q))
+          ≡ answerOf F.Stop (λ y h q. answerOf F.Stop go m h (read-met p y q)) m g (bind o λ x r. make (λ h. (x, (r, h))) (head (x .1) r))
+      by-front (fault k) = refl
+      by-front (got x fs r) =
+          rw (
+            answer-flaws F.Stop go m g fs (make (λ t. (x .0, (x .1, t))) (bind (head (x .1) r) λ h q. whole (contents p h) q)),
+            answer-flaws F.Stop (λ y h q. answerOf F.Stop go m h (read-met p y q)) m g fs (make (λ h. (x, (r, h))) (head (x .1) r)),
+          )
+          (by-head x r (noted m g fs) (head (x .1) r))
+
+-- the contents fill their part, or end the reading
+field-contents : {X Y : Type 0} (m : Modes) (e : Faults) (n : ℕ) (k : Kind) (mk : X → Named (Standing Y)) → ((x : X) → mk x .1 .0 ≡ k) → (o : Out X) (q : List ℕ)
+    → answerOf F.Stop (λ x h r. F.Read (x .1 .0) (n - length r) h) m e (make mk (whole o q)) ≡ closed k (n - length q) (answerOf C.Stop (λ t h r. C.Read h) m e (whole o []))
+field-contents m e n k mk i (fault j) q = refl
+field-contents m e n k mk i (got x fs []) q = rw (answer-make F.Stop (λ x h r. F.Read (x .1 .0) (n - length r) h) m e mk (got x fs q), i x)
+field-contents m e n k mk i (got x fs (b ∷ r)) q = refl
+
+-- ---- where the contents stand
+
+abbrev Within : List ℕ → Head → List ℕ → Type 0
+Within s (value v) q = Unit {0}
+Within s (fieldsIn f b) q = (w : List ℕ) × (s ≡ w ++ (b ++ q))
+Within s (itemsIn f n b) q = (w : List ℕ) × (s ≡ w ++ (b ++ q))
+
+meeting-within : (f : Form) (s : List ℕ) {y : Meeting} {fs : List Flaw} {q : List ℕ} → meeting f s ≡ got y fs q → Within s (y .1 .1) q
+meeting-within f s {y} {fs} {q} e = bind-got (front f s) _ e λ x es r gs i k _. bind-got (head (x .1) r) _ k λ h es′ r′ gs′ i′ k′ _.
+    let z : y ≡ (x, (r, h)) = cc in
+    let u : r′ ≡ q = cc in
+    rw (z, ← u) (at x r (front-takes f s i .0) h r′ (head-body (x .1) r i′))
+  where
+    at : (x : List ℕ × Kind) (r : List ℕ) → (w : List ℕ) × (s ≡ w ++ (x .0 ++ r)) → (h : Head) (t : List ℕ) → Body r h t → Within s h t
+    at x r w (value v) t b = tt
+    at x r w (fieldsIn o c) t b = (w .0 ++ (x .0 ++ b .0 .0), rw (append-assoc (w .0) (x .0 ++ b .0 .0) (c ++ t), append-assoc (x .0) (b .0 .0) (c ++ t), ← b .0 .1) (w .1))
+    at x r w (itemsIn o n c) t b = (w .0 ++ (x .0 ++ b .0 .0), rw (append-assoc (w .0) (x .0 ++ b .0 .0) (c ++ t), append-assoc (x .0) (b .0 .0) (c ++ t), ← b .0 .1) (w .1))
+
+-- a part by its begin and end
+record Part (s b : List ℕ) (c e : ℕ) : Type 0 where
+  pub is : between c e s ≡ b
+
+part : (s w b q : List ℕ) → s ≡ w ++ (b ++ q) → Part s b (length s - length q - length b) (length s - length q)
+part s w b q e =
+    let n : length s ≡ length w + (length b + length q) = simp length-append at (ap length e) in
+    let c : length s - length q - length b ≡ length w = omega arith in
+    let d : length s - length q - length w ≡ length b = omega arith in
+    record { is = rw (c, d, e, drop-append-seam w (b ++ q)) (take-append-seam b q) }
+
+-- ---- the returns
+
+module _ (f : Form) (m : Modes) (g : Faults) (s : List ℕ) (x : Met) (e : x ≡ meetAt f m g s) where
+  module _ (l d : ℕ) (z : l ≡ suc d) where
+    -- by what was met
+    by : (u : Met) (a : Field) → x ≡ u
+        → ((o : Out Meeting) → meeting f s ≡ o → u ≡ answerOf M.Stop (metIn (length s)) m g o
+        → a ≡ answerOf F.Stop (λ y h q. answerOf F.Stop (λ x h r. F.Read (x .1 .0) (length s - length r) h) m h (read-met (read d) y q)) m g o)
+        → a ≡ fieldAt f m l g s
+    unfolding fieldAt meetAt read
+    by u a i c = rw z (c (meeting f s) refl (sym i ∙ e) ∙ sym (field-met (read d) m (λ x h r. F.Read (x .1 .0) (length s - length r) h) g f s))
+
+    pub field-stop : (j : Stop) → x ≡ M.Stop j → F.Stop j ≡ fieldAt f m l g s
+    field-stop j i = by (M.Stop j) (F.Stop j) i at
+      where
+        at : (o : Out Meeting) → meeting f s ≡ o → M.Stop j ≡ answerOf M.Stop (metIn (length s)) m g o
+            → F.Stop j ≡ answerOf F.Stop (λ y h q. answerOf F.Stop (λ x h r. F.Read (x .1 .0) (length s - length r) h) m h (read-met (read d) y q)) m g o
+        at (fault k) v w = cc
+        at (got (n, (r, value c)) fs q) v w = absurd (let p : _≡_ {A = ℕ} 0 1 = cc in omega arith)
+        at (got (n, (r, fieldsIn t c)) fs q) v w = absurd (let p : _≡_ {A = ℕ} 0 1 = cc in omega arith)
+        at (got (n, (r, itemsIn t u c)) fs q) v w = absurd (let p : _≡_ {A = ℕ} 0 1 = cc in omega arith)
+
+    pub field-leaf : (k : Kind) (a b n : ℕ) (v : Faults) → x ≡ M.Leaf k a b n v → F.Read k n v ≡ fieldAt f m l g s
+    field-leaf k a b n v i = by (M.Leaf k a b n v) (F.Read k n v) i at
+      where
+        at : (o : Out Meeting) → meeting f s ≡ o → M.Leaf k a b n v ≡ answerOf M.Stop (metIn (length s)) m g o
+            → F.Read k n v ≡ answerOf F.Stop (λ y h q. answerOf F.Stop (λ x h r. F.Read (x .1 .0) (length s - length r) h) m h (read-met (read d) y q)) m g o
+        at (fault j) t w = absurd (let p : _≡_ {A = ℕ} 0 1 = cc in omega arith)
+        at (got (y, (r, value c)) fs q) t w =
+            let p₁ : k ≡ y .1 = cc in
+            let p₂ : n ≡ length s - length q = cc in
+            let p₃ : v ≡ noted m g fs = cc in
+            rw (p₁, p₂, p₃, noted-none m (noted m g fs))
+        at (got (y, (r, fieldsIn u c)) fs q) t w = absurd (let p : _≡_ {A = ℕ} 0 1 = cc in omega arith)
+        at (got (y, (r, itemsIn u w₀ c)) fs q) t w = absurd (let p : _≡_ {A = ℕ} 0 1 = cc in omega arith)
+
+    pub field-fields : (k : Kind) (a b : ℕ) (o : Form) (c n : ℕ) (v : Faults) → x ≡ M.Fields k a b o c n v → (y : Contents) → y ≡ contentsAt (fieldsIn o (between c n s)) m d v
+        → (r : Field) → r ≡ closed k n y → r ≡ fieldAt f m l g s
+    unfolding contentsAt
+    field-fields k a b o c n v i y j r t = t ∙ by (M.Fields k a b o c n v) (closed k n y) i at
+      where
+        at : (u : Out Meeting) → meeting f s ≡ u → M.Fields k a b o c n v ≡ answerOf M.Stop (metIn (length s)) m g u
+            → closed k n y ≡ answerOf F.Stop (λ y h q. answerOf F.Stop (λ x h r. F.Read (x .1 .0) (length s - length r) h) m h (read-met (read d) y q)) m g u
+        at (fault h) p w = absurd (let p : _≡_ {A = ℕ} 0 1 = cc in omega arith)
+        at (got (h, (q, value z₀)) fs z₁) p w = absurd (let p : _≡_ {A = ℕ} 0 1 = cc in omega arith)
+        at (got (h, (q, itemsIn z₀ z₁ z₂)) fs z₃) p w = absurd (let p : _≡_ {A = ℕ} 0 1 = cc in omega arith)
+        at (got (h, (q, fieldsIn o′ b′)) fs q′) p w =
+            let p₁ : k ≡ h .1 = cc in
+            let p₂ : n ≡ length s - length q′ = cc in
+            let p₃ : v ≡ noted m g fs = cc in
+            let p₄ : o ≡ o′ = cc in
+            let p₅ : c ≡ length s - length q′ - length b′ = cc in
+            let i = meeting-within f s p in
+            let x = part s (i .0) b′ q′ (i .1) in
+            let z : between c n s ≡ b′ = rw (p₅, p₂) (x .is) in
+            rw (j, z, p₁, p₂, p₃, p₄)
+            (sym (field-contents m (noted m g fs) (length s) (h .1) (λ t. (h .0, (h .1, t))) (λ t. refl) (contents (read d) (fieldsIn o′ b′)) q′))
+
+    pub field-items : (k : Kind) (a b : ℕ) (o : Form) (w c n : ℕ) (v : Faults) → x ≡ M.Items k a b o w c n v → (y : Contents) → y ≡ contentsAt (itemsIn o w (between c n s)) m d v
+        → (r : Field) → r ≡ closed k n y → r ≡ fieldAt f m l g s
+    unfolding contentsAt
+    field-items k a b o w c n v i y j r t = t ∙ by (M.Items k a b o w c n v) (closed k n y) i at
+      where
+        at : (u : Out Meeting) → meeting f s ≡ u → M.Items k a b o w c n v ≡ answerOf M.Stop (metIn (length s)) m g u
+            → closed k n y ≡ answerOf F.Stop (λ y h q. answerOf F.Stop (λ x h r. F.Read (x .1 .0) (length s - length r) h) m h (read-met (read d) y q)) m g u
+        at (fault h) p w = absurd (let p : _≡_ {A = ℕ} 0 1 = cc in omega arith)
+        at (got (h, (q, value z₀)) fs z₁) p w = absurd (let p : _≡_ {A = ℕ} 0 1 = cc in omega arith)
+        at (got (h, (q, fieldsIn z₀ z₁)) fs z₃) p w = absurd (let p : _≡_ {A = ℕ} 0 1 = cc in omega arith)
+        at (got (h, (q, itemsIn o′ w′ b′)) fs q′) p u =
+            let p₁ : k ≡ h .1 = cc in
+            let p₂ : n ≡ length s - length q′ = cc in
+            let p₃ : v ≡ noted m g fs = cc in
+            let p₄ : o ≡ o′ = cc in
+            let p₅ : c ≡ length s - length q′ - length b′ = cc in
+            let p₆ : w ≡ w′ = cc in
+            let i = meeting-within f s p in
+            let x = part s (i .0) b′ q′ (i .1) in
+            let z : between c n s ≡ b′ = rw (p₅, p₂) (x .is) in
+            rw (j, z, p₁, p₂, p₃, p₄, p₆)
+            (sym (field-contents m (noted m g fs) (length s) (h .1) (λ t. (h .0, (h .1, t))) (λ t. refl) (contents (read d) (itemsIn o′ w′ b′)) q′))
+
+  -- the contents lie inside
+  pub fields-in : (k : Kind) (a b : ℕ) (o : Form) (c n : ℕ) (v : Faults) → x ≡ M.Fields k a b o c n v → (c ≤ n) × (n ≤ length s)
+  unfolding meetAt
+  fields-in k a b o c n v i = at (meeting f s) refl (sym i ∙ e)
+    where
+      at : (u : Out Meeting) → meeting f s ≡ u → M.Fields k a b o c n v ≡ answerOf M.Stop (metIn (length s)) m g u → (c ≤ n) × (n ≤ length s)
+      at (fault h) p w = absurd (let p : _≡_ {A = ℕ} 0 1 = cc in omega arith)
+      at (got (h, (q, value z₀)) fs z₁) p w = absurd (let p : _≡_ {A = ℕ} 0 1 = cc in omega arith)
+      at (got (h, (q, itemsIn z₀ z₁ z₂)) fs z₃) p w = absurd (let p : _≡_ {A = ℕ} 0 1 = cc in omega arith)
+      at (got (h, (q, fieldsIn o′ b′)) fs q′) p w =
+          let p₂ : n ≡ length s - length q′ = cc in
+          let p₅ : c ≡ length s - length q′ - length b′ = cc in
+          (omega arith, omega arith)
+
+  pub items-in : (k : Kind) (a b : ℕ) (o : Form) (w c n : ℕ) (v : Faults) → x ≡ M.Items k a b o w c n v → (c ≤ n) × (n ≤ length s)
+  unfolding meetAt
+  items-in k a b o w c n v i = at (meeting f s) refl (sym i ∙ e)
+    where
+      at : (u : Out Meeting) → meeting f s ≡ u → M.Items k a b o w c n v ≡ answerOf M.Stop (metIn (length s)) m g u → (c ≤ n) × (n ≤ length s)
+      at (fault h) p w = absurd (let p : _≡_ {A = ℕ} 0 1 = cc in omega arith)
+      at (got (h, (q, value z₀)) fs z₁) p w = absurd (let p : _≡_ {A = ℕ} 0 1 = cc in omega arith)
+      at (got (h, (q, fieldsIn z₀ z₁)) fs z₃) p w = absurd (let p : _≡_ {A = ℕ} 0 1 = cc in omega arith)
+      at (got (h, (q, itemsIn o′ w′ b′)) fs q′) p u =
+          let p₂ : n ≡ length s - length q′ = cc in
+          let p₅ : c ≡ length s - length q′ - length b′ = cc in
+          (omega arith, omega arith)

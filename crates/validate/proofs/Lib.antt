@@ -1,0 +1,5 @@
+pub mod RunLaws
+pub mod NameLaws
+pub mod FieldCases
+pub mod LoopLaws
+pub mod MaskCases

@@ -1,0 +1,77 @@
+-- The mask: what the code knows at each return.
+use Prim.Native.Nat.{ℕ, _+_, _-_, _≤_, _<_}
+use native.Mathlib.Omega.{arith}
+use mathlib.Core.Path.{_≡_, refl, sym, ap, _∙_}
+use mathlib.Core.Bool.{Bool, true, false, _&&_, cond}
+use mathlib.Core.List.{List, [], _∷_, _++_}
+use lib.ListN.{length, length-append}
+use lib.Dec.{ltb}
+use borrow.Author.Tests.{lt-ltb, le-ltb}
+use Rattle.format.specs.declared.Kind.{Kind}
+use Rattle.format.specs.declared.Stop.{Stop}
+use Rattle.format.specs.declared.Stop.the-variants.{TooLong}
+use Rattle.format.specs.declared.Form.the-variants.{Top}
+use Rattle.format.specs.declared.Faults.{Faults}
+use Rattle.format.specs.Limits.{depthLimit, lengthLimit}
+use Rattle.format.specs.Parse.{Flaw, Out, fault, got}
+use Rattle.format.specs.Mask.{flaws, isAsked, namesMode, formatMode, sumOf, paddingMode, paddingOf, stopValue, maskOf, mask}
+use Rattle.format.specs.Reader.{Named, Standing, Layout, read}
+use Rattle.format.specs.Code.{noted, answerOf}
+use Rattle.validate.specs.declared.Field.{Field}
+use Rattle.validate.specs.declared.Field.the-variants as F
+use Rattle.validate.specs.Checks.{fieldAt, asked, nothing, sumIn}
+use Rattle.validate.proofs.NameLaws.{read-ends}
+
+pub mask-long : (n : ℕ) (s : List ℕ) → lengthLimit < length s → (v : ℕ) → v ≡ stopValue TooLong → v ≡ mask n s
+unfolding mask
+mask-long n s i v e = rw (e, lt-ltb lengthLimit (length s) i)
+
+-- the faults kept are those that count
+sum-noted : (n : ℕ) (fs : List Flaw) → sumIn (noted (asked n) nothing fs) ≡ sumOf n fs flaws
+unfolding noted
+sum-noted n fs = refl
+
+padding : (n : ℕ) (s w r : List ℕ) → s ≡ w ++ r → cond (isAsked n paddingMode && ltb (length s - length r) (length s)) 4096 0 ≡ paddingOf n r
+padding n s w [] e = rw (le-ltb (length s - 0) (length s) (omega arith)) (at (isAsked n paddingMode))
+  where
+    at : (x : Bool) → _≡_ {A = ℕ} (cond (x && false) 4096 0) 0
+    at true = refl
+    at false = refl
+padding n s w (b ∷ r) e =
+    let l : length s ≡ length w + length (b ∷ r) = simp length-append at (ap length e) in
+    rw (lt-ltb (length s - length (b ∷ r)) (length s) (omega arith)) (at (isAsked n paddingMode))
+  where
+    at : (x : Bool) → _≡_ {A = ℕ} (cond (x && true) 4096 0) (cond x 4096 0)
+    at true = refl
+    at false = refl
+
+module _ (n : ℕ) (s : List ℕ) (short : length s ≤ lengthLimit) (b₁ b₂ : Bool) (i₁ : b₁ ≡ isAsked n namesMode) (i₂ : b₂ ≡ isAsked n formatMode) (x : Field)
+    (e : x ≡ fieldAt Top (record { names = b₁; format = b₂ }) depthLimit nothing s) where
+  within : mask n s ≡ maskOf n (read depthLimit Top s)
+  unfolding mask
+  within = rw (le-ltb lengthLimit (length s) short)
+
+  field : x ≡ fieldAt Top (asked n) depthLimit nothing s
+  field = rw (i₁, i₂) at e
+
+  pub mask-stop : (j : Stop) → x ≡ F.Stop j → (v : ℕ) → v ≡ stopValue j → v ≡ mask n s
+  unfolding fieldAt
+  mask-stop j i v k = k ∙ sym (within ∙ at (read depthLimit Top s) (sym i ∙ field))
+    where
+      at : (o : Out (Named (Standing (Layout depthLimit)))) → F.Stop j ≡ answerOf F.Stop (λ x h r. F.Read (x .1 .0) (length s - length r) h) (asked n) nothing o → maskOf n o ≡ stopValue j
+      at (fault l) z = let y : j ≡ l = cc in rw y
+      at (got y fs r) z = absurd (let p : _≡_ {A = ℕ} 0 1 = cc in omega arith)
+
+  pub mask-read : (k : Kind) (a : ℕ) (h : Faults) → x ≡ F.Read k a h → (b₃ : Bool) → b₃ ≡ isAsked n paddingMode → (u v : ℕ) → u ≡ sumIn h → v ≡ cond (b₃ && ltb a (length s)) 4096 0
+      → u + v ≡ mask n s
+  unfolding fieldAt
+  mask-read k a h i b₃ i₃ u v j₁ j₂ = rw (j₁, j₂, i₃) (sym (within ∙ at (read depthLimit Top s) refl (sym i ∙ field)))
+    where
+      at : (o : Out (Named (Standing (Layout depthLimit)))) → read depthLimit Top s ≡ o → F.Read k a h ≡ answerOf F.Stop (λ x h r. F.Read (x .1 .0) (length s - length r) h) (asked n) nothing o
+          → maskOf n o ≡ sumIn h + cond (isAsked n paddingMode && ltb a (length s)) 4096 0
+      at (fault l) z y = absurd (let p : _≡_ {A = ℕ} 0 1 = cc in omega arith)
+      at (got y fs r) z w =
+          let w₁ : h ≡ noted (asked n) nothing fs = cc in
+          let w₂ : a ≡ length s - length r = cc in
+          let t = read-ends depthLimit Top s z in
+          rw (w₁, w₂, sum-noted n fs, padding n s (t .0) r (t .1))

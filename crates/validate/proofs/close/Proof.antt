@@ -1,0 +1,11 @@
+use borrow.Author.Needs.{needs}
+use Rattle.validate.proofs.close.Statement.{statement}
+use Rattle.validate.proofs.close.Tie as tie
+use Rattle.validate.proofs.close.Reads as reads
+use Rattle.validate.proofs.close.Lts as lts
+use Rattle.validate.proofs.RunLaws.{close-stop, close-read}
+
+ruleset laws = (close-stop, close-read, needs)
+
+pub close-spec : {M : Type 1} → statement M
+close-spec = tie.close (tie.spec (λ c. search laws) (λ c. search laws) (λ c. search laws) (λ c. search laws))

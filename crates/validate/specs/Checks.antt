@@ -1,0 +1,75 @@
+-- What the code answers of a field, and of the contents of a container, with the depth that is left. Of a field: its kind and its end in
+-- the part that was lent; of contents: that they fill their part.
+use Prim.Native.Nat.{ℕ, _+_, _-_}
+use mathlib.Core.Bool.{Bool, true, false, not, _&&_, cond}
+use mathlib.Core.List.{List, [], _∷_}
+use lib.ListN.{length}
+use Rattle.format.specs.declared.Kind.{Kind}
+use Rattle.format.specs.declared.Form.{Form}
+use Rattle.format.specs.declared.Modes.{Modes}
+use Rattle.format.specs.declared.Faults.{Faults}
+use Rattle.format.specs.Kinds.{same, all, isBare}
+use Rattle.format.specs.Parse.{twin, notUniform, whole}
+use Rattle.format.specs.Payload.{Head}
+use Rattle.format.specs.Mask.{isAsked, namesMode, formatMode}
+use Rattle.format.specs.Reader.{read, contents, isTyped}
+use Rattle.format.specs.Code.{noted, flawIf, answerOf}
+use Rattle.validate.specs.declared.Field.{Field}
+use Rattle.validate.specs.declared.Field.the-variants as F
+use Rattle.validate.specs.declared.Contents.{Contents}
+use Rattle.validate.specs.declared.Contents.the-variants as C
+use Rattle.validate.specs.declared.Run.{Run}
+use Rattle.validate.specs.declared.Run.the-variants as R
+use Rattle.validate.specs.FieldNames.{twinsAt}
+
+unfoldable pub fieldAt : Form → Modes → ℕ → Faults → List ℕ → Field
+fieldAt f m d g s = answerOf F.Stop (λ x h r. F.Read (x .1 .0) (length s - length r) h) m g (read d f s)
+
+unfoldable pub contentsAt : Head → Modes → ℕ → Faults → Contents
+contentsAt x m d g = answerOf C.Stop (λ t h r. C.Read h) m g (whole (contents (read d) x) [])
+
+-- a container of which the contents were checked
+abbrev pub closed : Kind → ℕ → Contents → Field
+closed k e (C.Stop j) = F.Stop j
+closed k e (C.Read h) = F.Read k e h
+
+-- ---- the kinds met so far: none, all of one ID, or of several
+
+abbrev pub runOf : List Kind → Run
+runOf [] = R.Empty
+runOf (k ∷ ks) = cond (all (same k) ks) (R.Alike k) R.Mixed
+
+abbrev pub adding : Run → Kind → Run
+adding R.Empty l = R.Alike l
+adding (R.Alike k) l = cond (same k l) (R.Alike k) R.Mixed
+adding R.Mixed l = R.Mixed
+
+abbrev pub alike : Run → Bool
+alike R.Empty = false
+alike (R.Alike k) = true
+alike R.Mixed = false
+
+abbrev pub alikeFull : Run → Bool
+alikeFull R.Empty = false
+alikeFull (R.Alike k) = not (isBare k)
+alikeFull R.Mixed = false
+
+-- ---- the fields of an object, the items of an array, together
+
+unfoldable pub objectEnd : Form → Modes → Faults → Run → List ℕ → Faults
+objectEnd f m h u s = noted m (noted m h (flawIf (isTyped f && alike u) notUniform)) (flawIf (twinsAt f s) twin)
+
+unfoldable pub arrayEnd : Form → Modes → Faults → Run → Faults
+arrayEnd f m h u = noted m h (flawIf (isTyped f && alikeFull u) notUniform)
+
+-- ---- the mask, of the faults met
+
+abbrev pub asked : ℕ → Modes
+asked n = record { names = isAsked n namesMode; format = isAsked n formatMode }
+
+abbrev pub nothing : Faults
+nothing = record { twin = false; blank = false; long = false; low = false; wide = false; text = false; uniform = false }
+
+abbrev pub sumIn : Faults → ℕ
+sumIn g =
+    cond (g .twin) 16 0 + (cond (g .blank) 32 0 + (cond (g .long) 64 0 + (cond (g .low) 128 0 + (cond (g .wide) 256 0 + (cond (g .text) 512 0 + (cond (g .uniform) 1024 0 + 0))))))
