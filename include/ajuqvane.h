@@ -33,6 +33,14 @@ uint32_t ajuqvane_float32_holds(uint64_t bits);
 /* The bits of the Float64 that the Float32 of these bits widens to. A NaN keeps its sign, and its fraction moves up 29 bits. */
 uint64_t ajuqvane_widen(uint32_t bits);
 
+/* What is wrong with a payload, for the modes that are asked: the sum of names 1 (equal or empty names), format 2 (one spelling) and
+ * padding 4 (bytes after the top field); other bits are ignored, and the bounds are checked whatever is asked.
+ * 0: nothing. Otherwise the first of these that stops the check, alone: 1 bytes end early, 2 an unknown ID, 4 a field at depth 33,
+ * 8 more than 65536 bytes, 2048 a uniform container that cannot be; or the sum of those of these that were met: 16 two equal names,
+ * 32 an empty name, 64 a VarUInt that is not minimal, 128 a 09 that is too low, 256 a Float64 that Float32 holds, 512 no UTF-8,
+ * 1024 a container that has to be uniform, 4096 bytes after the top field. */
+uint32_t ajuqvane_validate(uint32_t modes, const uint8_t *payload, size_t length);
+
 #ifdef __cplusplus
 }
 #endif

@@ -5,6 +5,7 @@ ghost use Rattle.text.specs.Equal.{equal};
 ghost use Rattle.text.specs.Utf8.{isText};
 ghost use Rattle.float.specs.Rule.{holds};
 ghost use Rattle.float.specs.Width.{widen};
+ghost use Rattle.format.specs.Mask.{mask};
 ghost use Rattle.cabi.specs.Number.{truth, afterwards, varuint};
 
 fn number_of(t: bool) -> u32
@@ -67,4 +68,12 @@ pub extern "C" fn ajuqvane_widen(bits: u32) -> u64
     ensures { λ r. ⌜ r ≡ widen bits ⌝ }
 {
     float::widen(bits)
+}
+
+// The mask.
+#[no_mangle]
+pub extern "C" fn ajuqvane_validate(modes: u32, payload: &[u8]) -> u32
+    ensures { λ r. ⌜ r ≡ mask modes (now (payload .entry)) ⌝ }
+{
+    validate::validate(modes, payload)
 }

@@ -1,4 +1,4 @@
--- A float in the other width and back: what Float32 holds goes there and comes back as the same bits, and every Float32 is held. The float rule is
+-- A float in the other width and back: what Float32 holds goes there and comes back as the same bits, and every Float32 but a NaN is held. The float rule is
 -- `Held`; the rest is what the library knows of bits and numbers.
 use mathlib.Core.Path.{_≡_, sym, ap, _∙_, subst}
 use Prim.Native.Nat.{ℕ, _^_, _<_}

@@ -3,5 +3,5 @@ pub mod Power
 pub mod Fit
 pub mod Held
 pub mod Laws
-pub mod Cases
+pub mod Zeros
 pub mod Casts

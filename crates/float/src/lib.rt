@@ -14,29 +14,16 @@ pub enum Exact {
     OutOfRange,
 }
 
-// The float rule. 2^52 is a multiple of 2^29, so from the exponent 897 on the fraction alone is tested.
+// The float rule, without a branch: 2^k divides 2^52 + f where that ends in k zeros or more, and it ends in 52 at most. `twice` has no sign.
 pub fn float32_holds(bits: u64) -> bool
     ensures { λ r. ⌜ r ≡ holds bits ⌝ }
 {
     let exponent = bits / 4503599627370496 % 2048;
-    let fraction = bits % 4503599627370496;
-    if 897 <= exponent {
-        if exponent <= 1150 {
-            return fraction % 536870912 == 0;
-        }
-        if exponent == 2047 {
-            return fraction == 0;
-        }
-        return false;
-    }
-    if 874 <= exponent {
-        let spare = 926 - exponent;
-        return (4503599627370496 + fraction) % (1 << spare) == 0;
-    }
-    if exponent == 0 {
-        return fraction == 0;
-    }
-    false
+    let zeros = u64::trailing_zeros(4503599627370496 + bits % 4503599627370496) as u64;
+    let number = (926 <= zeros + exponent) & (29 <= zeros) & (exponent <= 1150);
+    let twice = bits % 9223372036854775808 * 2;
+    let special = (twice == 0) | (twice == 18437736874454810624);
+    special | number
 }
 
 pub fn is_nan32(bits: u32) -> bool
