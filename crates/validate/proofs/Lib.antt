@@ -3,3 +3,4 @@ pub mod NameLaws
 pub mod FieldCases
 pub mod LoopLaws
 pub mod MaskCases
+pub mod OneAnswer
