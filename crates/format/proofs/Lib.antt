@@ -17,4 +17,5 @@ pub mod HeadCases
 pub mod Local
 pub mod HeadParts
 pub mod MeetCases
+pub mod TopCases
 pub mod Spelling

@@ -12,9 +12,13 @@ use Rattle.format.specs.declared.Front.{Front}
 use Rattle.format.specs.declared.Front.the-variants as F
 use Rattle.format.specs.declared.Heading.{Heading}
 use Rattle.format.specs.declared.Heading.the-variants as H
+use Rattle.format.specs.declared.Place.{Place}
+use Rattle.format.specs.declared.Top.{Top}
+use Rattle.format.specs.declared.Top.the-variants as T
 use Rattle.format.specs.declared.Met.{Met}
 use Rattle.format.specs.declared.Met.the-variants as M
 use Rattle.format.specs.Parse.{Flaw, twin, blank, long, low, wide, notText, notUniform, Out, fault, got, bind, make}
+use Rattle.format.specs.Kinds.{id}
 use Rattle.format.specs.Mask.{has}
 use Rattle.format.specs.Payload.{front, Head, value, fieldsIn, itemsIn, head}
 
@@ -70,3 +74,7 @@ metIn n x h q = metOf (x .0 .1) (n - length (x .1 .0) - length (x .0 .0)) (n - l
 
 unfoldable pub meetAt : Form → Modes → Faults → List ℕ → Met
 meetAt f m g s = answerOf M.Stop (metIn (length s)) m g (meeting f s)
+
+-- the top place, by where its payload was met
+abbrev pub topAt : Kind → ℕ → ℕ → Top
+topAt k a e = T.At (record { kind = id k; start = a; end = e; depth = 1 })

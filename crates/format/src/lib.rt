@@ -8,7 +8,8 @@ ghost use lib.ListN.{length, take, drop};
 ghost use Rattle.number.specs.VarUInt.{varUInt};
 ghost use Rattle.format.specs.Kinds.{id, known, flags, kindAt, isBare};
 ghost use Rattle.format.specs.Parse.{blank, long, low, wide, notText};
-ghost use Rattle.format.specs.Code.{noted, flawIf, frontAt, headAt, meetAt};
+ghost use Rattle.format.specs.Code.{noted, flawIf, frontAt, headAt, meetAt, topAt};
+ghost use Rattle.format.specs.Places.{top};
 ghost use Rattle.format.specs.Pieces.{between, typedAt, spanAt, textAt, namedAt, plainOf, classOf, fixedAt, positiveOf, negativeOf, doubleAt, leafOf, idOf, nameOf, countOf, sharedFieldsOf, sharedItemsOf, sharedCountOf, insideOf};
 
 // The kinds of a field ("Kinds and payloads").
@@ -90,6 +91,68 @@ impl Place {
     pub const DEPTH: u32 = 32;
 
     pub const LENGTH: usize = 65536;
+
+    // The top place, read at byte 0 as a step reads a field. Its contents are not looked into.
+    pub fn top(payload: &[u8]) -> Top
+        ensures { λ r. ⌜ r ≡ top (now (payload .entry)) ⌝ }
+    {
+        if Place::LENGTH < payload.len() {
+            return Top::Fault(Stop::TooLong);
+        }
+        let modes = Modes {
+            names: false,
+            format: false,
+        };
+        let faults = Faults {
+            twin: false,
+            blank: false,
+            long: false,
+            low: false,
+            wide: false,
+            text: false,
+            uniform: false,
+        };
+        match meet_of(payload, Form::Top, modes, faults) {
+            Met::Stop(stop) => Top::Fault(stop),
+            Met::Leaf {
+                kind,
+                name: _,
+                start,
+                end,
+                faults: _,
+            } => top_at(kind, start, end),
+            Met::Fields {
+                kind,
+                name: _,
+                start,
+                form: _,
+                begin: _,
+                end,
+                faults: _,
+            } => top_at(kind, start, end),
+            Met::Items {
+                kind,
+                name: _,
+                start,
+                form: _,
+                count: _,
+                begin: _,
+                end,
+                faults: _,
+            } => top_at(kind, start, end),
+        }
+    }
+}
+
+fn top_at(kind: Kind, start: usize, end: usize) -> Top
+    ensures { λ r. ⌜ r ≡ topAt kind start end ⌝ }
+{
+    Top::At(Place {
+        kind: id_of(kind),
+        start: start,
+        end: end,
+        depth: 1,
+    })
 }
 
 // The last place that a step gave, or none.
