@@ -1,7 +1,7 @@
 /* validate FILE: says what is wrong with the payload in a file, checked strictly.
  *
  * Prints `0: strict`, or the mask and a line for each fault in it. The exit status is 0 for mask 0, 1 for another mask, and 2
- * where the file cannot be read. tests/example builds and runs it. */
+ * where the file cannot be read or no file is named. tests/example builds and runs it. */
 #include "ajuqvane.h"
 
 #include <errno.h>
@@ -25,7 +25,7 @@ static const struct {
     {8, "more than 65536 bytes"},
     {16, "two fields of one object have the same name"},
     {32, "a field name is empty"},
-    {64, "a number is longer than it has to be"},
+    {64, "a number, a size, a count or a length is longer than it has to be"},
     {128, "an integer is below the least signed 64-bit integer"},
     {256, "a Float64 that Float32 holds exactly"},
     {512, "a string or a name is not UTF-8"},

@@ -33,12 +33,25 @@ uint32_t ajuqvane_float32_holds(uint64_t bits);
 /* The bits of the Float64 that the Float32 of these bits widens to. A NaN keeps its sign, and its fraction moves up 29 bits. */
 uint64_t ajuqvane_widen(uint32_t bits);
 
-/* What is wrong with a payload, for the modes that are asked: the sum of names 1 (equal or empty names), format 2 (one spelling) and
- * padding 4 (bytes after the top field); other bits are ignored, and the bounds are checked whatever is asked.
- * 0: nothing. Otherwise the first of these that stops the check, alone: 1 bytes end early, 2 an unknown ID, 4 a field at depth 33,
- * 8 more than 65536 bytes, 2048 a uniform container that cannot be; or the sum of those of these that were met: 16 two equal names,
- * 32 an empty name, 64 a VarUInt that is not minimal, 128 a 09 that is too low, 256 a Float64 that Float32 holds, 512 no UTF-8,
- * 1024 a container that has to be uniform, 4096 bytes after the top field. */
+/* What is wrong with a payload, of what is asked. modes is the sum of names 1, format 2 and padding 4; other bits are ignored, and the
+ * bounds are checked whatever is asked. All three together are strict.
+ * 0: nothing of what is asked.
+ * Otherwise the first of these that is met in the order of the bytes, alone (8 before all others):
+ *   1 bytes end early, a size does not fit, a counted item is missing, or bytes are left in a container
+ *   2 an unknown ID, or other flag bits than the place asks
+ *   4 a field at depth 33
+ *   8 more than 65536 bytes
+ *   2048 a uniform object without a field, a uniform array without an item, or one of nulls or truth values
+ * or, if none of these is met, the sum of those that are met and asked:
+ *   16 (names) two fields of one object have equal names
+ *   32 (names) an empty field name
+ *   64 (format) a VarUInt, wherever it stands, that is longer than it has to be
+ *   128 (format) an integer below the least signed 64-bit integer
+ *   256 (format) a Float64 that Float32 holds exactly
+ *   512 (format) a string, a field name or a custom's name that is not UTF-8
+ *   1024 (format) an object or array that has to be uniform and is not written so
+ *   4096 (padding) bytes after the top field
+ * With names asked, the time grows with the square of the number of names in one object: seconds for the worst 65536 bytes. */
 uint32_t ajuqvane_validate(uint32_t modes, const uint8_t *payload, size_t length);
 
 #ifdef __cplusplus
