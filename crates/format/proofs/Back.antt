@@ -2,8 +2,8 @@
 -- for a run of equal things.
 use Prim.Native.Nat.{ℕ, zero, suc, _+_, _^_, _≤_, _<_}
 use native.Mathlib.Omega.{arith}
-use mathlib.Core.Path.{_≡_, refl, sym, ap, _∙_, subst}
-use mathlib.Core.Bool.{Bool, true, false, not, cond}
+use mathlib.Core.Path.{_≡_, refl, sym, ap}
+use mathlib.Core.Bool.{Bool, true, false, cond}
 use mathlib.Core.List.{List, [], _∷_, _++_, map, append-assoc}
 use lib.ListN.{length, take, drop, length-append, length-take, take-append-drop}
 use lib.Seq.{take-at, drop-at, drop-append-seam}
@@ -16,7 +16,7 @@ use Rattle.number.specs.declared.VarUInt.the-variants.{Cut, Whole}
 use Rattle.number.proofs.VarUIntLaws.{var-rt, var-inv}
 use Rattle.format.specs.declared.Stop.{Stop}
 use Rattle.format.specs.declared.Stop.the-variants.{Early}
-use Rattle.format.specs.Parse.{Flaw, long, Out, fault, got, withFlaws, bind, raise, make, whole, number, readVarUInt, fixed, sized, rest, many, fill}
+use Rattle.format.specs.Parse.{Flaw, Out, fault, got, withFlaws, bind, raise, make, whole, number, readVarUInt, fixed, sized, many, fill}
 use Rattle.format.specs.Encoding.{withSize, concat}
 use Rattle.format.proofs.Lists.{bytes-right, bytes-left}
 

@@ -1,10 +1,10 @@
 -- What the code of a front knows at each return, and what it answers there.
-use Prim.Native.Nat.{ℕ, zero, suc, _+_, _-_, _≤_, _<_}
+use Prim.Native.Nat.{ℕ, _+_, _-_, _≤_, _<_}
 use native.Mathlib.Omega.{arith}
 use mathlib.Core.Path.{_≡_, refl, sym, ap, _∙_}
 use mathlib.Core.Bool.{Bool, true, false, not, cond}
 use mathlib.Core.List.{List, [], _∷_}
-use lib.ListN.{length, take, drop, getD}
+use lib.ListN.{length, getD}
 use lib.Dec.{eqb, ltb}
 use borrow.Author.Tests.{lt-ltb, le-ltb, ltb-false}
 use Rattle.number.specs.VarUInt.{varUInt}
@@ -32,7 +32,7 @@ use Rattle.format.specs.declared.Front.the-variants as F
 use Rattle.format.specs.Kinds.{kindAt}
 use Rattle.format.specs.Parse.{blank, long, notText}
 use Rattle.format.specs.Code.{noted, flawIf, frontAt}
-use Rattle.format.specs.Pieces.{between, typedOf, typedAt, spanOf, spanAt, textOf, textAt, namedOf, namedAt, plainOf, frontBy}
+use Rattle.format.specs.Pieces.{between, typedOf, typedAt, spanOf, spanAt, textOf, textAt, namedAt, plainOf}
 use Rattle.format.proofs.FaultLaws.{text-unasked}
 use Rattle.format.proofs.HeadLaws.{Inside, part-length, front-is}
 

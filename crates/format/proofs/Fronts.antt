@@ -1,7 +1,6 @@
 -- What stands before a payload, the type byte and the name, for each form of a field: read back, and only it is.
-use Prim.Native.Nat.{ℕ, _+_, _^_, _≤_, _<_}
-use native.Mathlib.Omega.{arith}
-use mathlib.Core.Path.{_≡_, refl, sym, ap, _∙_, subst}
+use Prim.Native.Nat.{ℕ, _+_, _^_, _<_}
+use mathlib.Core.Path.{_≡_, refl, subst}
 use mathlib.Core.List.{List, [], _∷_, _++_}
 use lib.ListN.{length}
 use Rattle.number.specs.BigEndian.{Bytes}
@@ -13,12 +12,11 @@ use Rattle.format.specs.declared.Mark.the-variants.{OfTop, OfField, OfIt
 use Rattle.format.specs.declared.Form.{Form}
 use Rattle.format.specs.declared.Form.the-variants.{Top, Field, Item, SharedField, SharedItem}
 use Rattle.format.specs.Kinds.{typeByte, kindAt}
-use Rattle.format.specs.Parse.{Out, got}
+use Rattle.format.specs.Parse.{got}
 use Rattle.format.specs.Tree.{NameWithin}
 use Rattle.format.specs.Encoding.{withSize}
 use Rattle.format.specs.Names.{readName}
-use Rattle.format.specs.Payload.{kindFound, readType, readKind, readNameIf, front}
-use Rattle.format.proofs.Lists.{bytes-right}
+use Rattle.format.specs.Payload.{kindFound, readType, readKind, front}
 use Rattle.format.proofs.Back.{never, bind-case}
 use Rattle.format.proofs.KindLaws.{kind-rt, kind-inv}
 use Rattle.format.proofs.TextLaws.{name-rt, name-case}

@@ -1,13 +1,13 @@
 -- What the code of a head knows at each return, and what it answers there.
-use Prim.Native.Nat.{ℕ, zero, suc, _+_, _-_, _^_, _≤_, _<_}
+use Prim.Native.Nat.{ℕ, suc, _+_, _-_, _^_, _≤_, _<_}
 use native.Mathlib.Omega.{arith}
-use mathlib.Core.Path.{_≡_, refl, sym, ap, _∙_}
+use mathlib.Core.Path.{_≡_, refl, sym, _∙_}
 use mathlib.Core.Bool.{Bool, true, false, not, cond}
 use mathlib.Core.List.{List, [], _∷_}
-use lib.ListN.{length, take, drop, getD, length-drop, length-take}
-use lib.Seq.{drop-cons, drop-drop, take-suc}
+use lib.ListN.{length, take, drop, getD}
+use lib.Seq.{drop-cons, drop-drop}
 use lib.Dec.{ltb}
-use borrow.Author.Tests.{lt-ltb, le-ltb, ltb-false}
+use borrow.Author.Tests.{lt-ltb, le-ltb}
 use Rattle.number.specs.BigEndian.{fromBytes}
 use Rattle.number.specs.VarUInt.{varUInt}
 use Rattle.number.specs.Fixed.{fixed64}
@@ -37,9 +37,9 @@ use Rattle.format.specs.declared.Inner.the-variants as I
 use Rattle.format.specs.Kinds.{kindAt, isBare}
 use Rattle.format.specs.Parse.{long, low, wide}
 use Rattle.format.specs.Code.{noted, flawIf, headAt}
-use Rattle.format.specs.Pieces.{between, spanAt, textAt, classOf, fixedAt, positiveOf, negativeOf, doubleAt, leafOf, idOf, nameOf, countOf, sharedFieldOf, sharedFieldsOf, sharedItemOf, sharedItemsOf, sharedCountOf, insideOf, headBy}
+use Rattle.format.specs.Pieces.{between, spanAt, textAt, classOf, fixedAt, positiveOf, negativeOf, doubleAt, leafOf, idOf, nameOf, countOf, sharedFieldsOf, sharedItemsOf, sharedCountOf, insideOf, headBy}
 use Rattle.format.proofs.Lists.{drop-take}
-use Rattle.format.proofs.HeadLaws.{Inside, part-length, head-is}
+use Rattle.format.proofs.HeadLaws.{part-length, head-is}
 
 -- ---- leaves
 

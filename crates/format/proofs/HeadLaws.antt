@@ -1,14 +1,14 @@
 -- The pieces of a head, put together, are the definition: what stands before a payload (`front-is`), and a payload up to its contents (`head-is`).
-use Prim.Native.Nat.{ℕ, zero, suc, _+_, _-_, _^_, _≤_, _<_}
+use Prim.Native.Nat.{ℕ, zero, suc, _+_, _-_, _^_, _≤_}
 use native.Mathlib.Omega.{arith}
 use mathlib.Core.Path.{_≡_, refl, sym, ap, _∙_}
 use mathlib.Core.Bool.{Bool, true, false, not, cond}
-use mathlib.Core.List.{List, [], _∷_, _++_}
+use mathlib.Core.List.{List, [], _∷_}
 use lib.ListN.{length, take, drop, length-take, length-drop}
 use lib.Seq.{drop-drop, take-all}
 use lib.Dec.{eqb, ltb}
 use lib.IntN.{pos, negsuc}
-use borrow.Author.Tests.{ltb-true, ltb-false, lt-ltb, le-ltb, eqb-true, eq-eqb, ne-eqb}
+use borrow.Author.Tests.{ltb-false, lt-ltb, le-ltb, eq-eqb, ne-eqb}
 use Rattle.number.specs.BigEndian.{fromBytes}
 use Rattle.number.specs.VarUInt.{varUInt}
 use Rattle.number.specs.declared.VarUInt.{VarUInt}
@@ -43,7 +43,7 @@ use Rattle.format.specs.Kinds.{kindAt, isBare}
 use Rattle.format.specs.Parse.{Out, fault, got, blank, long, low, wide, notText, bind, raise, make, whole, number, readVarUInt, fixed, sized, rest}
 use Rattle.format.specs.Names.{isEmpty, readText, readName}
 use Rattle.format.specs.Tree.{Leaf, null, bool, integer, float, binary, string, objectAttachment, binaryAttachment, hash, uuid, objectId, dateTime, timeSpan}
-use Rattle.format.specs.Payload.{float32, float64, readNegative, readFloat64, kindFound, readType, front, Head, value, fieldsIn, itemsIn, payload, readFields, readItems, sharedFieldsOf, readSharedFields, sharedItemsOf, readSharedItems, readCustomById, readCustomByName, head}
+use Rattle.format.specs.Payload.{float32, float64, readNegative, readFloat64, kindFound, readType, front, Head, value, itemsIn, payload, readFields, readItems, sharedFieldsOf, readSharedFields, sharedItemsOf, readSharedItems, readCustomById, readCustomByName, head}
 use Rattle.format.specs.Code.{noted, flawIf, answerOf, frontAt, headingOf, headAt}
 use Rattle.format.specs.Pieces.{between, typedOf, typedAt, spanOf, spanAt, textOf, textAt, namedOf, namedAt, plainOf, memberOf, frontBy, classOf, fixedAt, positiveOf, negativeOf, doubleAt, leafOf, idOf, nameOf, countOf, insideOf, headBy}
 use Rattle.format.specs.Pieces as pieces

@@ -1,13 +1,12 @@
 -- What stands before a field's contents is local; a front ends with the name; the contents end where the payload ends; and a field takes a byte at least.
-use Prim.Native.Nat.{ℕ, zero, suc, _+_, _-_, _^_, _≤_, _<_}
+use Prim.Native.Nat.{ℕ, zero, suc, _+_, _-_, _^_, _<_}
 use native.Mathlib.Omega.{arith}
 use mathlib.Core.Path.{_≡_, refl, sym, ap, _∙_}
 use mathlib.Core.Bool.{Bool, true, false, not, cond}
 use mathlib.Core.List.{List, [], _∷_, _++_, append-assoc}
-use lib.ListN.{length, take, drop, length-append}
+use lib.ListN.{length, length-append}
 use lib.Dec.{ltb}
 use lib.IntN.{pos, negsuc}
-use borrow.Author.Tests.{ltb-false}
 use Rattle.number.specs.BigEndian.{fromBytes}
 use Rattle.number.specs.Signed.{fromTwos}
 use Rattle.text.specs.Utf8.{isText}
@@ -20,14 +19,14 @@ use Rattle.format.specs.declared.Mark.{Mark}
 use Rattle.format.specs.declared.Mark.the-variants.{OfTop, OfField, OfItem, SharedByFields, SharedByItems}
 use Rattle.format.specs.declared.Form.{Form}
 use Rattle.format.specs.declared.Form.the-variants.{Top, Field, Item, SharedField, SharedItem}
-use Rattle.format.specs.declared.Stop.the-variants.{Early, BadUniform}
+use Rattle.format.specs.declared.Stop.the-variants.{BadUniform}
 use Rattle.format.specs.Kinds.{kindAt, isBare}
 use Rattle.format.specs.Parse.{Flaw, low, wide, notText, blank, Out, fault, got, bind, raise, make, readVarUInt, fixed, sized, rest}
 use Rattle.format.specs.Names.{isEmpty, readText, readName}
 use Rattle.format.specs.Tree.{Leaf, null, bool, integer, float, binary, string, objectAttachment, binaryAttachment, hash, uuid, objectId, dateTime, timeSpan}
-use Rattle.format.specs.Payload.{kindFound, readType, readKind, readNameIf, front, float32, float64, readNegative, readFloat64, readCustomById, readCustomByName, Payload, leaf, fields, sharedFields, items, sharedItems, payload, headBy, Head, value, fieldsIn, itemsIn, sharedFieldsOf, readSharedFields, sharedItemsOf, readSharedItems, readFields, readItems, head}
+use Rattle.format.specs.Payload.{kindFound, readType, front, float32, float64, readNegative, readFloat64, readCustomById, readCustomByName, Payload, leaf, fields, sharedFields, items, sharedItems, payload, headBy, Head, value, fieldsIn, itemsIn, sharedFieldsOf, readSharedFields, sharedItemsOf, readSharedItems, readFields, readItems, head}
 use Rattle.format.proofs.Back.{never}
-use Rattle.format.proofs.Local.{bind-got, raise-got, Local, local-bind, local-got, local-raise, local-make, local-number, local-fixed, local-sized, local-le, number-takes, sized-got}
+use Rattle.format.proofs.Local.{bind-got, raise-got, Local, local-bind, local-got, local-raise, local-make, local-number, local-fixed, local-sized, sized-got}
 
 -- ---- local
 

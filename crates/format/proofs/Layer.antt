@@ -1,28 +1,27 @@
 -- One layer of a tree: if the fields are read back, and only they are, then so is a container, and any field that holds one.
 use Prim.Native.Nat.{ℕ, zero, suc, _+_, _^_, _≤_, _<_}
 use native.Mathlib.Omega.{arith}
-use mathlib.Core.Path.{_≡_, refl, sym, ap, _∙_, subst}
-use mathlib.Core.Bool.{Bool, true, false, not, _&&_, cond}
+use mathlib.Core.Path.{_≡_, refl, sym, ap, subst}
+use mathlib.Core.Bool.{Bool, true, false, not, cond}
 use mathlib.Core.List.{List, [], _∷_, _++_, map, append-assoc}
 use lib.ListN.{length, length-append}
 use borrow.Author.Tests.{not-true}
 use Rattle.number.specs.BigEndian.{All, Bytes}
 use Rattle.number.specs.VarUInt.{encoded}
-use Rattle.number.proofs.VarUIntLaws.{encoded-length}
 use Rattle.format.specs.declared.Kind.{Kind}
 use Rattle.format.specs.declared.Kind.the-variants.{Null, Object, UniformObject, Array, UniformArray, Binary, String, IntegerPositive, IntegerNegative, Float32, Float64, False, True, ObjectAttachment, BinaryAttachment, Hash, Uuid, DateTime, TimeSpan, ObjectId, CustomById, CustomByName}
 use Rattle.format.specs.declared.Known.{Known}
 use Rattle.format.specs.declared.Known.the-variants.{Unknown, Is}
-use Rattle.format.specs.declared.Mark.the-variants.{OfField, OfItem, SharedByFields, SharedByItems}
+use Rattle.format.specs.declared.Mark.the-variants.{OfItem, SharedByFields, SharedByItems}
 use Rattle.format.specs.declared.Form.{Form}
 use Rattle.format.specs.declared.Form.the-variants.{Top, Field, Item, SharedField, SharedItem}
 use Rattle.format.specs.declared.Stop.the-variants.{BadUniform}
 use Rattle.format.specs.Kinds.{typeByte, kindAt, same, all, isBare, isUniform, isUniformArray}
-use Rattle.format.specs.Parse.{Out, fault, got, notUniform, twin, bind, raise, make, readVarUInt, sized, many, fill}
+use Rattle.format.specs.Parse.{Out, fault, got, notUniform, twin, bind, raise, make, readVarUInt, many, fill}
 use Rattle.format.specs.Names.{twins}
 use Rattle.format.specs.Tree.{Leaf, Node, atom, array, object, mapNode, NameWithin, NodeWithin}
 use Rattle.format.specs.Encoding.{withSize, concat, leafKind, leafPayload, fieldKinds, nodeKind, items, fields, arrayBody, objectBody, nodePayload}
-use Rattle.format.specs.Payload.{leaf, payload, Head, value, fieldsIn, itemsIn, sharedFieldsOf, readSharedFields, sharedItemsOf, readSharedItems, readFields, readItems, front, head}
+use Rattle.format.specs.Payload.{payload, Head, value, fieldsIn, itemsIn, sharedFieldsOf, readSharedFields, sharedItemsOf, readSharedItems, readFields, readItems, front, head}
 use Rattle.format.specs.Reader.{Standing, Named, Reader, kindsIn, namesIn, contents, readNode, readField}
 use Rattle.format.proofs.Lists.{append-nil, all-of, all-pure, all-both, map-map, length-concat, and-true}
 use Rattle.format.proofs.Back.{never, bind-case, make-case, raise-off, whole-case, number-rt, number-case, sized-rt, sized-case, Good, many-rt, many-case, fill-rt, fill-inv}

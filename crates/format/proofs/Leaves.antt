@@ -1,16 +1,16 @@
 -- The payload of a leaf: read back, and only it is. Kinds of fixed bytes share a law, and so do kinds of sized bytes.
 use Prim.Native.Nat.{ℕ, _+_, _-_, _^_, _≤_, _<_}
 use native.Mathlib.Omega.{arith}
-use mathlib.Core.Path.{_≡_, refl, sym, ap, _∙_, subst}
+use mathlib.Core.Path.{_≡_, refl, subst}
 use mathlib.Core.Bool.{Bool, true, false, not, cond}
-use mathlib.Core.List.{List, [], _∷_, _++_, append-assoc}
+use mathlib.Core.List.{List, [], _++_}
 use lib.ListN.{length, length-append}
 use lib.Dec.{ltb}
 use lib.IntN.{ℤ, pos, negsuc}
 use borrow.Author.Tests.{not-false, ltb-true, ltb-false, lt-ltb}
 use Rattle.number.specs.BigEndian.{Bytes, fromBytes, toBytes}
 use Rattle.number.specs.VarUInt.{encoded}
-use Rattle.number.specs.Signed.{minusPlusOne, fromTwos, toTwos}
+use Rattle.number.specs.Signed.{fromTwos, toTwos}
 use Rattle.number.proofs.BigEndianLaws.{to-length, from-to, to-from, from-lt}
 use Rattle.number.proofs.VarUIntLaws.{encoded-length}
 use Rattle.number.proofs.SignedLaws.{twos-pos, twos-neg, twos-inv, twos-pos-lt, twos-neg-lt}
@@ -20,12 +20,11 @@ use Rattle.float.proofs.Laws.{holds-nan, narrow-lt, narrow-nan, widen-narrow, w
 use Rattle.format.specs.declared.Kind.{Kind}
 use Rattle.format.specs.declared.Kind.the-variants.{Null, Object, UniformObject, Array, UniformArray, Binary, String, IntegerPositive, IntegerNegative, Float32, Float64, False, True, ObjectAttachment, BinaryAttachment, Hash, Uuid, DateTime, TimeSpan, ObjectId, CustomById, CustomByName}
 use Rattle.format.specs.Kinds.{isBare}
-use Rattle.format.specs.Parse.{Out, fault, got, low, wide, make, readVarUInt, fixed, sized, rest}
+use Rattle.format.specs.Parse.{Out, got, low, wide, make, readVarUInt, fixed, sized, rest}
 use Rattle.format.specs.Names.{readText}
 use Rattle.format.specs.Tree.{Float, number, nan32, nan64, Leaf, null, bool, integer, float, binary, string, objectAttachment, binaryAttachment, hash, uuid, objectId, dateTime, timeSpan, customById, customByName, TicksWithin, FloatWithin, LeafWithin}
 use Rattle.format.specs.Encoding.{withSize, floatKind, floatPayload, leafKind, leafPayload}
-use Rattle.format.specs.Payload.{float32, float64, readNegative, readFloat64, readCustomById, readCustomByName, Payload, leaf, fields, sharedFields, items, sharedItems, payload, Head, value, head}
-use Rattle.format.proofs.Lists.{append-nil}
+use Rattle.format.specs.Payload.{float32, float64, readNegative, readFloat64, readCustomById, readCustomByName, Payload, leaf, fields, sharedFields, items, sharedItems, payload, value, head}
 use Rattle.format.proofs.Back.{bind-case, make-case, raise-off, number-rt, number-case, fixed-rt, fixed-case, sized-rt, sized-case}
 use Rattle.format.proofs.TextLaws.{inside-lt, text-rt, text-case}
 

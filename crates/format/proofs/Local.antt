@@ -1,10 +1,10 @@
 -- Reading is local: what was read stands at the front, and reads the same whatever stands behind it. Flaws are free here.
-use Prim.Native.Nat.{ℕ, zero, suc, _+_, _-_, _^_, _≤_, _<_}
+use Prim.Native.Nat.{ℕ, _+_, _-_, _≤_, _<_}
 use native.Mathlib.Omega.{arith}
-use mathlib.Core.Path.{_≡_, refl, sym, ap, _∙_}
+use mathlib.Core.Path.{_≡_, refl, sym, ap}
 use mathlib.Core.Bool.{Bool, true, false, not, cond}
 use mathlib.Core.List.{List, [], _∷_, _++_, append-assoc}
-use lib.ListN.{length, take, drop, length-append, length-take, take-append-drop}
+use lib.ListN.{length, take, drop, length-append, take-append-drop}
 use lib.Seq.{take-at, drop-at, length-take-le}
 use lib.Dec.{ltb}
 use borrow.Author.Tests.{ltb-false, le-ltb}
@@ -13,7 +13,7 @@ use Rattle.number.specs.declared.VarUInt.{VarUInt}
 use Rattle.number.specs.declared.VarUInt.the-variants.{Cut, Whole}
 use Rattle.number.proofs.VarUIntLaws.{var-range, var-local}
 use Rattle.format.specs.declared.Stop.the-variants.{Early}
-use Rattle.format.specs.Parse.{Flaw, long, Out, fault, got, withFlaws, bind, raise, make, whole, number, readVarUInt, fixed, sized, rest}
+use Rattle.format.specs.Parse.{Flaw, long, Out, fault, got, withFlaws, bind, raise, make, whole, number, readVarUInt, fixed, sized}
 use Rattle.format.proofs.Back.{never}
 
 -- ---- what was read

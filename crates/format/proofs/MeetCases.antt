@@ -1,9 +1,9 @@
 -- A field up to its contents: what the code knows at each return, from the answers of its front and of its head.
-use Prim.Native.Nat.{ℕ, zero, suc, _+_, _-_, _≤_, _<_}
+use Prim.Native.Nat.{ℕ, _+_, _-_, _≤_}
 use native.Mathlib.Omega.{arith}
 use mathlib.Core.Path.{_≡_, refl, sym, ap, _∙_, subst}
-use mathlib.Core.List.{List, [], _∷_, _++_, append-assoc}
-use lib.ListN.{length, take, drop, length-append, length-drop}
+use mathlib.Core.List.{List, _++_, append-assoc}
+use lib.ListN.{length, drop, length-append, length-drop}
 use lib.Seq.{take-all, drop-append-seam}
 use Rattle.format.specs.declared.Kind.{Kind}
 use Rattle.format.specs.declared.Form.{Form}
@@ -21,7 +21,7 @@ use Rattle.format.specs.Payload.{front, Head, value, fieldsIn, itemsIn, 
 use Rattle.format.specs.Code.{noted, answerOf, frontAt, headingOf, headAt, metOf, metIn, meetAt}
 use Rattle.format.specs.Pieces.{between}
 use Rattle.format.proofs.Local.{local-le}
-use Rattle.format.proofs.HeadParts.{local-head, Body, head-body, front-takes}
+use Rattle.format.proofs.HeadParts.{local-head, head-body, front-takes}
 use Rattle.format.proofs.HeadLaws.{answer-make}
 use Rattle.format.proofs.FaultLaws.{answer-flaws}
 

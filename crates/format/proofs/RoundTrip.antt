@@ -1,14 +1,12 @@
 -- Every layer: a tree within the limits is read back, and only such a tree is read with no flaw.
-use Prim.Native.Nat.{ℕ, zero, suc, _^_, _≤_, _<_}
-use native.Mathlib.Omega.{arith}
-use mathlib.Core.Path.{_≡_, refl, sym, ap, _∙_}
-use mathlib.Core.List.{List, [], _∷_, _++_, map}
+use Prim.Native.Nat.{ℕ, zero, suc, _^_, _<_}
+use mathlib.Core.Path.{_≡_, refl, ap, _∙_}
+use mathlib.Core.List.{List, [], _++_}
 use lib.ListN.{length}
 use Rattle.number.specs.BigEndian.{Bytes}
-use Rattle.format.specs.declared.Form.{Form}
 use Rattle.format.specs.declared.Form.the-variants.{Top}
 use Rattle.format.specs.Parse.{got}
-use Rattle.format.specs.Tree.{Node, atom, array, object, Tree, mapNode, Within}
+use Rattle.format.specs.Tree.{atom, array, object, Tree, mapNode, Within}
 use Rattle.format.specs.Encoding.{kindOf, payloadOf, encoding}
 use Rattle.format.specs.Reader.{Standing, Named, Layout, tree, read}
 use Rattle.format.proofs.Lists.{append-nil, map-map, map-same}

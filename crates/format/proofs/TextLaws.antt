@@ -1,16 +1,15 @@
 -- Text and names behind their size: read back, and only they are.
 use Prim.Native.Nat.{ℕ, _+_, _^_, _≤_, _<_}
 use native.Mathlib.Omega.{arith}
-use mathlib.Core.Path.{_≡_, refl, sym, ap, _∙_, subst}
-use mathlib.Core.Bool.{Bool, true, false, not}
-use mathlib.Core.List.{List, [], _∷_, _++_}
+use mathlib.Core.Path.{_≡_, refl, subst}
+use mathlib.Core.Bool.{true, not}
+use mathlib.Core.List.{List, [], _++_}
 use lib.ListN.{length, length-append}
 use borrow.Author.Tests.{not-false}
 use Rattle.number.specs.BigEndian.{Bytes}
-use Rattle.number.specs.VarUInt.{encoded}
 use Rattle.number.proofs.VarUIntLaws.{encoded-length}
 use Rattle.text.specs.Utf8.{isText}
-use Rattle.format.specs.Parse.{Out, got, blank, notText, sized, rest}
+use Rattle.format.specs.Parse.{got, blank, notText, sized, rest}
 use Rattle.format.specs.Names.{isEmpty, readText, readName}
 use Rattle.format.specs.Tree.{Text, NameWithin}
 use Rattle.format.specs.Encoding.{withSize}

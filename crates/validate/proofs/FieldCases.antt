@@ -1,9 +1,9 @@
 -- A field: what the code knows at each return, from what was met and from the answer of its contents.
-use Prim.Native.Nat.{ℕ, zero, suc, _+_, _-_, _≤_, _<_}
+use Prim.Native.Nat.{ℕ, suc, _+_, _-_, _≤_}
 use native.Mathlib.Omega.{arith}
-use mathlib.Core.Path.{_≡_, refl, sym, ap, _∙_}
+use mathlib.Core.Path.{_≡_, refl, sym, ap, _∙_, subst}
 use mathlib.Core.List.{List, [], _∷_, _++_, append-assoc}
-use lib.ListN.{length, take, drop, length-append}
+use lib.ListN.{length, length-append}
 use lib.Seq.{drop-append-seam, take-append-seam}
 use Rattle.format.specs.declared.Kind.{Kind}
 use Rattle.format.specs.declared.Form.{Form}
@@ -15,14 +15,14 @@ use Rattle.format.specs.declared.Met.{Met}
 use Rattle.format.specs.declared.Met.the-variants as M
 use Rattle.format.specs.Parse.{Flaw, Out, fault, got, withFlaws, bind, make, whole}
 use Rattle.format.specs.Payload.{front, Head, value, fieldsIn, itemsIn, head}
-use Rattle.format.specs.Tree.{Node, atom}
-use Rattle.format.specs.Reader.{Standing, Named, Reader, Layout, read, readField, contents}
-use Rattle.format.specs.Code.{noted, answerOf, meeting, metOf, metIn, meetAt}
+use Rattle.format.specs.Tree.{Node}
+use Rattle.format.specs.Reader.{Standing, Named, Reader, read, readField, contents}
+use Rattle.format.specs.Code.{noted, answerOf, meeting, metIn, meetAt}
 use Rattle.format.specs.Pieces.{between}
 use Rattle.format.proofs.Local.{bind-got}
 use Rattle.format.proofs.HeadParts.{front-takes, head-body, Body}
 use Rattle.format.proofs.HeadLaws.{answer-make}
-use Rattle.format.proofs.FaultLaws.{noted-none, answer-flaws, answer-bind}
+use Rattle.format.proofs.FaultLaws.{noted-none, answer-flaws}
 use Rattle.validate.specs.declared.Field.{Field}
 use Rattle.validate.specs.declared.Field.the-variants as F
 use Rattle.validate.specs.declared.Contents.{Contents}
@@ -95,15 +95,25 @@ meeting-within f s {y} {fs} {q} e = bind-got (front f s) _ e λ x es r gs i k _.
     at x r w (itemsIn o n c) t b = (w .0 ++ (x .0 ++ b .0 .0), rw (append-assoc (w .0) (x .0 ++ b .0 .0) (c ++ t), append-assoc (x .0) (b .0 .0) (c ++ t), ← b .0 .1) (w .1))
 
 -- a part by its begin and end
-record Part (s b : List ℕ) (c e : ℕ) : Type 0 where
-  pub is : between c e s ≡ b
-
-part : (s w b q : List ℕ) → s ≡ w ++ (b ++ q) → Part s b (length s - length q - length b) (length s - length q)
+part : (s w b q : List ℕ) → s ≡ w ++ (b ++ q) → between (length s - length q - length b) (length s - length q) s ≡ b
 part s w b q e =
     let n : length s ≡ length w + (length b + length q) = simp length-append at (ap length e) in
     let c : length s - length q - length b ≡ length w = omega arith in
     let d : length s - length q - length w ≡ length b = omega arith in
-    record { is = rw (c, d, e, drop-append-seam w (b ++ q)) (take-append-seam b q) }
+    rw (c, d, e, drop-append-seam w (b ++ q)) (take-append-seam b q)
+
+-- where the contents of what was met begin and end
+abbrev begins : Met → ℕ
+begins (M.Stop j) = 0
+begins (M.Leaf k a b e h) = 0
+begins (M.Fields k a b o c e h) = c
+begins (M.Items k a b o w c e h) = c
+
+abbrev ends : Met → ℕ
+ends (M.Stop j) = 0
+ends (M.Leaf k a b e h) = 0
+ends (M.Fields k a b o c e h) = e
+ends (M.Items k a b o w c e h) = e
 
 -- ---- the returns
 
@@ -158,8 +168,7 @@ module _ (f : Form) (m : Modes) (g : Faults) (s : List ℕ) (x : Met) (e : x ≡
             let p₄ : o ≡ o′ = cc in
             let p₅ : c ≡ length s - length q′ - length b′ = cc in
             let i = meeting-within f s p in
-            let x = part s (i .0) b′ q′ (i .1) in
-            let z : between c n s ≡ b′ = rw (p₅, p₂) (x .is) in
+            let z : between c n s ≡ b′ = rw (p₅, p₂) (part s (i .0) b′ q′ (i .1)) in
             rw (j, z, p₁, p₂, p₃, p₄)
             (sym (field-contents m (noted m g fs) (length s) (h .1) (λ t. (h .0, (h .1, t))) (λ t. refl) (contents (read d) (fieldsIn o′ b′)) q′))
 
@@ -181,34 +190,23 @@ module _ (f : Form) (m : Modes) (g : Faults) (s : List ℕ) (x : Met) (e : x ≡
             let p₅ : c ≡ length s - length q′ - length b′ = cc in
             let p₆ : w ≡ w′ = cc in
             let i = meeting-within f s p in
-            let x = part s (i .0) b′ q′ (i .1) in
-            let z : between c n s ≡ b′ = rw (p₅, p₂) (x .is) in
+            let z : between c n s ≡ b′ = rw (p₅, p₂) (part s (i .0) b′ q′ (i .1)) in
             rw (j, z, p₁, p₂, p₃, p₄, p₆)
             (sym (field-contents m (noted m g fs) (length s) (h .1) (λ t. (h .0, (h .1, t))) (λ t. refl) (contents (read d) (itemsIn o′ w′ b′)) q′))
 
   -- the contents lie inside
-  pub fields-in : (k : Kind) (a b : ℕ) (o : Form) (c n : ℕ) (v : Faults) → x ≡ M.Fields k a b o c n v → (c ≤ n) × (n ≤ length s)
+  contents-in : (begins x ≤ ends x) × (ends x ≤ length s)
   unfolding meetAt
-  fields-in k a b o c n v i = at (meeting f s) refl (sym i ∙ e)
+  contents-in = subst (λ t. (begins t ≤ ends t) × (ends t ≤ length s)) (sym e) (at (meeting f s))
     where
-      at : (u : Out Meeting) → meeting f s ≡ u → M.Fields k a b o c n v ≡ answerOf M.Stop (metIn (length s)) m g u → (c ≤ n) × (n ≤ length s)
-      at (fault h) p w = absurd (let p : _≡_ {A = ℕ} 0 1 = cc in omega arith)
-      at (got (h, (q, value z₀)) fs z₁) p w = absurd (let p : _≡_ {A = ℕ} 0 1 = cc in omega arith)
-      at (got (h, (q, itemsIn z₀ z₁ z₂)) fs z₃) p w = absurd (let p : _≡_ {A = ℕ} 0 1 = cc in omega arith)
-      at (got (h, (q, fieldsIn o′ b′)) fs q′) p w =
-          let p₂ : n ≡ length s - length q′ = cc in
-          let p₅ : c ≡ length s - length q′ - length b′ = cc in
-          (omega arith, omega arith)
+      at : (o : Out Meeting) → (begins (answerOf M.Stop (metIn (length s)) m g o) ≤ ends (answerOf M.Stop (metIn (length s)) m g o)) × (ends (answerOf M.Stop (metIn (length s)) m g o) ≤ length s)
+      at (fault k) = (omega arith, omega arith)
+      at (got (h, (q, value c)) fs r) = (omega arith, omega arith)
+      at (got (h, (q, fieldsIn o c)) fs r) = (omega arith, omega arith)
+      at (got (h, (q, itemsIn o w c)) fs r) = (omega arith, omega arith)
+
+  pub fields-in : (k : Kind) (a b : ℕ) (o : Form) (c n : ℕ) (v : Faults) → x ≡ M.Fields k a b o c n v → (c ≤ n) × (n ≤ length s)
+  fields-in k a b o c n v i = subst (λ t. (begins t ≤ ends t) × (ends t ≤ length s)) i contents-in
 
   pub items-in : (k : Kind) (a b : ℕ) (o : Form) (w c n : ℕ) (v : Faults) → x ≡ M.Items k a b o w c n v → (c ≤ n) × (n ≤ length s)
-  unfolding meetAt
-  items-in k a b o w c n v i = at (meeting f s) refl (sym i ∙ e)
-    where
-      at : (u : Out Meeting) → meeting f s ≡ u → M.Items k a b o w c n v ≡ answerOf M.Stop (metIn (length s)) m g u → (c ≤ n) × (n ≤ length s)
-      at (fault h) p w = absurd (let p : _≡_ {A = ℕ} 0 1 = cc in omega arith)
-      at (got (h, (q, value z₀)) fs z₁) p w = absurd (let p : _≡_ {A = ℕ} 0 1 = cc in omega arith)
-      at (got (h, (q, fieldsIn z₀ z₁)) fs z₃) p w = absurd (let p : _≡_ {A = ℕ} 0 1 = cc in omega arith)
-      at (got (h, (q, itemsIn o′ w′ b′)) fs q′) p u =
-          let p₂ : n ≡ length s - length q′ = cc in
-          let p₅ : c ≡ length s - length q′ - length b′ = cc in
-          (omega arith, omega arith)
+  items-in k a b o w c n v i = subst (λ t. (begins t ≤ ends t) × (ends t ≤ length s)) i contents-in

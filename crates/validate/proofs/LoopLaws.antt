@@ -4,7 +4,7 @@ use native.Mathlib.Omega.{arith}
 use mathlib.Core.Path.{_≡_, refl, sym, ap, _∙_}
 use mathlib.Core.Bool.{Bool, true, false, _&&_}
 use mathlib.Core.List.{List, [], _∷_, _++_, append-assoc, map}
-use lib.ListN.{length, drop, length-append, length-drop}
+use lib.ListN.{length, drop, length-drop}
 use lib.Seq.{drop-drop}
 use Rattle.format.specs.declared.Kind.{Kind}
 use Rattle.format.specs.declared.Form.{Form}
@@ -14,25 +14,22 @@ use Rattle.format.specs.declared.Modes.{Modes}
 use Rattle.format.specs.declared.Faults.{Faults}
 use Rattle.format.specs.Kinds.{isUniform, isUniformArray}
 use Rattle.format.specs.Names.{twins}
-use Rattle.format.specs.Tree.{Node, array, object}
+use Rattle.format.specs.Tree.{array, object}
 use Rattle.format.specs.Parse.{Flaw, twin, notUniform, Out, fault, got, withFlaws, bind, raise, whole, many, fill}
-use Rattle.format.specs.Payload.{front, head, fieldsIn, itemsIn}
-use Rattle.format.specs.Reader.{Standing, Named, Layout, kindsIn, namesIn, isTyped, contents, readNode, read}
+use Rattle.format.specs.Payload.{fieldsIn, itemsIn}
+use Rattle.format.specs.Reader.{Standing, Named, Layout, kindsIn, namesIn, isTyped, read}
 use Rattle.format.specs.Code.{noted, flawIf, answerOf}
 use Rattle.format.specs.Pieces.{between}
-use Rattle.format.proofs.Back.{never}
-use Rattle.format.proofs.Local.{bind-got, whole-got, with-put}
-use Rattle.format.proofs.HeadParts.{front-takes, local-head}
+use Rattle.format.proofs.Local.{with-put}
 use Rattle.format.proofs.MeetCases.{end-drop, rest-all}
 use Rattle.format.proofs.FaultLaws.{noted-none, noted-more}
 use Rattle.validate.specs.declared.Field.{Field}
 use Rattle.validate.specs.declared.Field.the-variants as F
-use Rattle.validate.specs.declared.Contents.{Contents}
 use Rattle.validate.specs.declared.Contents.the-variants as C
 use Rattle.validate.specs.declared.Run.{Run}
 use Rattle.validate.specs.declared.Run.the-variants as R
-use Rattle.validate.specs.FieldNames.{namesAt, twinsAt}
-use Rattle.validate.specs.Checks.{fieldAt, contentsAt, runOf, adding, alike, alikeFull, objectEnd, arrayEnd}
+use Rattle.validate.specs.FieldNames.{twinsAt}
+use Rattle.validate.specs.Checks.{fieldAt, contentsAt, runOf, adding, objectEnd, arrayEnd}
 use Rattle.validate.proofs.RunLaws.{run-snoc, alike-uniform, alike-uniform-array}
 use Rattle.validate.proofs.NameLaws.{names-read, read-ends}
 

@@ -2,7 +2,7 @@
 -- they are the names that the reader gives.
 use Prim.Native.Nat.{ℕ, zero, suc, _+_, _-_, _≤_, _<_}
 use native.Mathlib.Omega.{arith}
-use mathlib.Core.Path.{_≡_, refl, sym, ap, _∙_, subst}
+use mathlib.Core.Path.{_≡_, refl, sym, ap, _∙_}
 use mathlib.Core.Bool.{Bool, true, false, cond, _||_}
 use mathlib.Core.List.{List, [], _∷_, _++_, append-assoc}
 use lib.ListN.{length, drop, length-append, length-drop}
@@ -17,7 +17,7 @@ use Rattle.format.specs.declared.Modes.{Modes}
 use Rattle.format.specs.declared.Faults.{Faults}
 use Rattle.format.specs.declared.Met.{Met}
 use Rattle.format.specs.declared.Met.the-variants as M
-use Rattle.format.specs.Parse.{Flaw, Out, fault, got, bind, fill}
+use Rattle.format.specs.Parse.{Flaw, Out, fault, got, fill}
 use Rattle.format.specs.Kinds.{any}
 use Rattle.format.specs.Names.{twins}
 use Rattle.format.specs.Payload.{front, Head, value, fieldsIn, itemsIn, head}
@@ -25,8 +25,8 @@ use Rattle.format.specs.Reader.{Named, Standing, Layout, namesIn, contents, rea
 use Rattle.format.specs.Code.{answerOf, meeting, metOf, metIn, meetAt}
 use Rattle.format.specs.Pieces.{between}
 use Rattle.format.proofs.Back.{never}
-use Rattle.format.proofs.Local.{bind-got, whole-got, with-put, local-le, sized-got}
-use Rattle.format.proofs.HeadParts.{local-head, Fronted, Taken, front-takes}
+use Rattle.format.proofs.Local.{bind-got, whole-got, with-put}
+use Rattle.format.proofs.HeadParts.{local-head, Fronted, front-takes}
 use Rattle.format.proofs.MeetCases.{end-drop, rest-all}
 use Rattle.validate.specs.declared.names.Name.{Name}
 use Rattle.validate.specs.declared.names.Name.the-variants as N

@@ -118,7 +118,7 @@ fn has<'a>(part: &'a [u8], form: Form, name: &'a [u8]) -> bool
     false
 }
 
-// Two fields that stand in the part have equal names. Items have no names, which are equal.
+// Two fields that stand in the part have equal names. (An item's name is empty, so any two items would have.)
 pub fn twins(part: &[u8], form: Form) -> bool
     ensures { λ r. ⌜ r ≡ twinsAt form (now (part .entry)) ⌝ }
 {
