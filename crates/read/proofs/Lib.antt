@@ -1,0 +1,7 @@
+pub mod OpenLaws
+pub mod FieldLaws
+pub mod StepLaws
+pub mod ViewLaws
+pub mod ValueLaws
+pub mod LookLaws
+pub mod OneAnswer
