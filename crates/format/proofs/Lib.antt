@@ -16,6 +16,17 @@ pub mod FrontCases
 pub mod HeadCases
 pub mod Local
 pub mod HeadParts
+pub mod Parts
+pub mod FieldBytes
+pub mod Containers
+pub mod LeafShown
+pub mod Runs
+pub mod ReadPlaces
+pub mod Steps
+pub mod Showing
+pub mod WalkFacts
 pub mod MeetCases
 pub mod TopCases
 pub mod Spelling
+pub mod Walk
+pub mod WalkExample

@@ -9,6 +9,8 @@ pub mod Reader
 pub mod Mask
 pub mod Places
 pub mod Values
+pub mod Show
+pub mod Stepping
 pub mod WriteList
 pub mod Writer
 pub mod Program

@@ -75,10 +75,11 @@ fn open_in(part: &[u8], kind: Kind, start: usize) -> Opened
         text: false,
         uniform: false,
     };
+    let length = part.len();
     match format::head_of(part, kind, modes, faults) {
         Heading::Stop(stop) => Opened::Stop(stop),
         Heading::Leaf { end, faults: _ } => {
-            if end < part.len() {
+            if end < length {
                 return Opened::Stop(Stop::Early);
             }
             Opened::Leaf
@@ -89,7 +90,7 @@ fn open_in(part: &[u8], kind: Kind, start: usize) -> Opened
             end,
             faults: _,
         } => {
-            if end < part.len() {
+            if end < length {
                 return Opened::Stop(Stop::Early);
             }
             Opened::Fields {
@@ -104,7 +105,7 @@ fn open_in(part: &[u8], kind: Kind, start: usize) -> Opened
             end,
             faults: _,
         } => {
-            if end < part.len() {
+            if end < length {
                 return Opened::Stop(Stop::Early);
             }
             Opened::Items {

@@ -277,7 +277,7 @@ fn check_array(
     Contents::Read(end_array(form, modes, met, run))
 }
 
-fn stop_value(stop: Stop) -> u32
+pub fn stop_value(stop: Stop) -> u32
     ensures { λ r. ⌜ r ≡ stopValue stop ⌝ }
 {
     match stop {

@@ -1,0 +1,87 @@
+-- What the calls on places leave in the lent numbers, case by case.
+use Prim.Native.Nat.{ℕ, suc, _-_, _^_, _<_, _≤_}
+use native.Mathlib.Omega.{arith}
+use mathlib.Core.Path.{_≡_, refl, sym, ap, _∙_, subst}
+use mathlib.Core.Bool.{Bool, true, false}
+use mathlib.Core.List.{List}
+use lib.ListN.{length}
+use lib.Seq.{sets}
+use lib.Dec.{T}
+use lib.IntN.{ℤ, pos, negsuc, _-ℤ_, natAbs}
+use lib.Signed.{ltZ, nonNeg}
+use mir.Syntax.{w64}
+use mir.Val.{Fits, SFits, toZ, ofZ}
+use mir.ValLaws.{toZ-ofZ}
+use borrow.Author.Tests.{lt-ltb, le-ltb, ltb-true, eq-eqb, ne-eqb}
+use Rattle.number.specs.Signed.{toTwos}
+use Rattle.format.specs.declared.Place.{Place}
+use Rattle.format.specs.declared.After.{After}
+use Rattle.format.specs.declared.After.the-variants.{Start, Last}
+use Rattle.cabi.specs.Number.{Afterwards, afterwards}
+use Rattle.cabi.specs.Reply.{Reply, tooFew, told, placeOf, afterOf}
+
+pub after-none : (some last : ℕ) → some ≡ 0 → Start ≡ afterOf some last
+after-none some last h = rw (eq-eqb some 0 h)
+
+pub after-some : (some last : ℕ) (p : Place) → p ≡ placeOf 0 0 last 0 → (some ≡ 0 → ⊥) → Last p ≡ afterOf some last
+after-some some last p e h = rw (ne-eqb some 0 h) (ap Last e)
+
+module _ {A : Type 0} (n : ℕ) (f : A → Reply) (l : List ℕ) (d : A) where
+  pub reply-few : length l < n → afterwards tooFew l ≡ told n (f d) l
+  reply-few h = rw (lt-ltb (length l) n h)
+
+  -- the answer that was met is the definition's
+  pub reply : n ≤ length l → (x y : A) → x ≡ d → x ≡ y → afterwards (f y .code) (sets l 0 (f y .values)) ≡ told n (f d) l
+  reply h x y e i = rw (le-ltb (length l) n h) (ap (λ z. afterwards (f z .code) (sets l 0 (f z .values))) (sym i ∙ e))
+
+-- ---- two's complement: a number below 0 is -(n + 1), and -1 less it is n
+
+minus : (n : ℕ) → negsuc 0 -ℤ negsuc n ≡ pos n
+minus n = rw (le-ltb (suc n) 1 (omega arith)) (ap pos (omega arith))
+
+module _ (z : ℤ) (fit : SFits w64 z) where
+  abbrev seen : ℤ
+  seen = toZ w64 (ofZ w64 z)
+
+  seen-is : seen ≡ z
+  seen-is = toZ-ofZ w64 z fit
+
+  module _ (low : ltZ seen (pos 0) ≡ true) where
+    below : (n : ℕ) × (z ≡ negsuc n) × (n < 2 ^ 63)
+    below = at z (rw seen-is at low) fit
+      where
+        at : (y : ℤ) → ltZ y (pos 0) ≡ true → SFits w64 y → (n : ℕ) × (y ≡ negsuc n) × (n < 2 ^ 63)
+        at (pos n) h f = absurd (omega (arith, ltb-true n 0 h))
+        at (negsuc n) h f = (n, refl, f .sfits)
+
+    left-is : negsuc 0 -ℤ seen ≡ pos (below .0)
+    left-is = ap (λ y. negsuc 0 -ℤ y) (seen-is ∙ below .1) ∙ minus (below .0)
+
+    pub left-fits : SFits w64 (negsuc 0 -ℤ seen)
+    left-fits = rw left-is (record { sfits = below .2 })
+
+    again : toZ w64 (ofZ w64 (negsuc 0 -ℤ seen)) ≡ pos (below .0)
+    again = toZ-ofZ w64 (negsuc 0 -ℤ seen) left-fits ∙ left-is
+
+    pub left-casts : T (nonNeg (toZ w64 (ofZ w64 (negsuc 0 -ℤ seen)))) × Fits w64 (natAbs (toZ w64 (ofZ w64 (negsuc 0 -ℤ seen))))
+    left-casts = rw again (tt, record { fits = omega (arith, below .2) })
+
+    pub left-small : natAbs (toZ w64 (ofZ w64 (negsuc 0 -ℤ seen))) ≤ 18446744073709551615
+    left-small = rw again (omega (arith, below .2))
+
+    pub twos-below : 18446744073709551615 - natAbs (toZ w64 (ofZ w64 (negsuc 0 -ℤ seen))) ≡ toTwos z
+    twos-below = ap (λ y. 18446744073709551615 - natAbs y) again ∙ sym (ap toTwos (below .1))
+
+  module _ (high : ltZ seen (pos 0) ≡ false) where
+    above : (n : ℕ) × (z ≡ pos n) × (n < 2 ^ 63)
+    above = at z (rw seen-is at high) fit
+      where
+        at : (y : ℤ) → ltZ y (pos 0) ≡ false → SFits w64 y → (n : ℕ) × (y ≡ pos n) × (n < 2 ^ 63)
+        at (pos n) h f = (n, refl, f .sfits)
+        at (negsuc n) h f = absurd (let q : _≡_ {A = Bool} true false = h in subst (λ (b : Bool). T b) q tt)
+
+    pub casts : T (nonNeg seen) × Fits w64 (natAbs seen)
+    casts = rw (seen-is, above .1) (tt, record { fits = omega (arith, above .2) })
+
+    pub twos-above : natAbs seen ≡ toTwos z
+    twos-above = rw (seen-is, above .1)
