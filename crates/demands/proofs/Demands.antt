@@ -1,0 +1,98 @@
+-- What the owner demands, sentence by sentence, each as a theorem about the definitions of document 01. The proofs are citations: what stands behind them
+-- is in crates/format/proofs. What the public calls have to do with it, their contracts say: each is one equation with a definition named here.
+use Prim.Native.Nat.{ℕ, suc, _+_, _≤_, _<_}
+use mathlib.Core.Path.{_≡_}
+use mathlib.Core.Logic.{_↔_, _⊎_}
+use mathlib.Core.Option.{some}
+use mathlib.Core.List.{List, []}
+use lib.ListN.{length}
+use lib.Seq.{slice}
+use Rattle.number.specs.BigEndian.{All, Bytes}
+use Rattle.format.specs.declared.Kind.{Kind}
+use Rattle.format.specs.declared.Stop.{Stop}
+use Rattle.format.specs.declared.Place.{Place}
+use Rattle.format.specs.declared.Found.the-variants as F
+use Rattle.format.specs.declared.Top.the-variants as T
+use Rattle.format.specs.Limits.{depthLimit}
+use Rattle.format.specs.Parse.{Flaw}
+use Rattle.format.specs.Tree.{Tree, object}
+use Rattle.format.specs.Encoding.{concat, encoding, WithinLimits}
+use Rattle.format.specs.Reader.{Standing, Named, Layout, tree, treeOf}
+use Rattle.format.specs.Mask.{stopValue, flaws, sumOf, paddingOf, mask, boundsOnly, strict}
+use Rattle.format.specs.Places.{lookup}
+use Rattle.format.specs.Places as places
+use Rattle.format.specs.Show.{ShownFields, Shown, ShownPayload}
+use Rattle.format.specs.Stepping.{fieldAt, placeAt, Agree, stepping, events, ranges, Apart, IsFirst}
+use Rattle.format.proofs.Spelling as spelling
+use Rattle.format.proofs.Walk as walk
+
+-- ---- 1. "Whatever bytes, modes, place or write list arrive, every public call ends, reads only what it was lent, and refuses what is bad by itself."
+-- That a call ends, stays inside its slices and has this answer for every input is what the prover shows of a function that has no `requires`:
+--   validate::validate    r ≡ mask modes payload                  crates/validate/src/lib.rt
+--   Place::top            r ≡ top payload                         crates/format/src/lib.rt
+--   read::checked         r ≡ checked payload place               crates/read/src/lib.rt
+--   read::step            r ≡ step payload container last
+--   read::name_view       now r ≡ nameView payload container last
+--   read::part, view      r ≡ part payload place, now r ≡ view payload place
+--   read::lookup          r ≡ lookup payload object name
+--   read::double, signed, unsigned, ticks                         r ≡ double payload place, ...
+-- "A refused read writes nothing": none of these calls is lent anything to write to. The calls for C write their answer's numbers only
+-- (crates/cabi/specs/Reply.antt, `told`).
+
+-- ---- 2. "For every input and mode set the mask is the one that document 01 derives."
+-- The contract of `validate` is the definition `mask`, of which these hold: one stopping fault, whatever is asked; or each flaw met once, where its mode is asked
+pub mask-is : (payload : List ℕ)
+    → ((k : Stop) × ((modes : ℕ) → mask modes payload ≡ stopValue k))
+    ⊎ ((met : List Flaw) × (left : List ℕ) × ((modes : ℕ) → mask modes payload ≡ sumOf modes met flaws + paddingOf modes left))
+mask-is = spelling.mask-is
+
+-- 2. "Every field reached from the top of a payload that passes the bounds check shows the kind, name and value that the layout gives it."
+pub every-field-shown : (payload : List ℕ) → mask boundsOnly payload ≡ 0 → ShownPayload payload
+every-field-shown = walk.every-field-shown
+
+-- 2. path by path: steps reach a place exactly where the tree has a field, the name met is its name, and the place shows its kind and value
+pub every-field-reached : (payload : List ℕ) (shown : ShownPayload payload) (path : List ℕ)
+    → Agree payload (fieldAt path depthLimit ([], (shown .kind, shown .layout))) (placeAt path payload ([], shown .place))
+every-field-reached = walk.every-field-reached
+
+-- ---- 3. "Strict passes a payload exactly if it is the encoding of some tree within the limits;"
+pub strict-exactly-encodings : (payload : List ℕ) → Bytes payload → (mask strict payload ≡ 0) ↔ ((t : Tree depthLimit) × WithinLimits t × (payload ≡ encoding depthLimit t))
+strict-exactly-encodings = spelling.strict-exactly-encodings
+
+-- 3. "two passed payloads are byte-identical exactly if their ordered trees are equal;"
+pub equal-bytes-equal-trees : (one other : List ℕ) → Bytes one → Bytes other → mask strict one ≡ 0 → mask strict other ≡ 0 → (one ≡ other) ↔ (treeOf one ≡ treeOf other)
+equal-bytes-equal-trees = spelling.equal-bytes-equal-trees
+
+-- 3. every tree within the limits has an encoding that passes under every mode set, and the tree read from it is that tree
+pub encoding-passes : (t : Tree depthLimit) → WithinLimits t → ((modes : ℕ) → mask modes (encoding depthLimit t) ≡ 0) × (treeOf (encoding depthLimit t) ≡ some t)
+encoding-passes = spelling.encoding-passes
+
+-- 3. "and in any payload that the bounds check passes, stepping from the top meets each field of its tree once, in order,"
+pub walk-meets-each-once : (payload : List ℕ) → mask boundsOnly payload ≡ 0
+    → (p : Place) × (k : Kind) × (l : Layout depthLimit) × (places.top payload ≡ T.At p) × (treeOf payload ≡ some (tree depthLimit l)) × (stepping depthLimit payload p ≡ events depthLimit 2 (k, l))
+walk-meets-each-once = walk.walk-meets-each-once
+
+-- 3. of every container that is shown, at c, with the fields xs
+module _ {A : Type 0} (Shows : Place → Standing A → Type 0) (payload : List ℕ) (k : Kind) (c : Place) (xs : List (Named (Standing A))) (f : ShownFields Shows payload k c xs) where
+  pub one-place-each : length (f .places) ≡ length xs
+  one-place-each = walk.one-place-each Shows payload k c xs f
+
+  -- 3. "wholly inside its container,"
+  pub fields-inside : All (λ r. (f .contents ≤ r .0) × (r .0 < r .1) × (r .1 ≤ c .end)) (ranges (f .contents) (f .places))
+  fields-inside = walk.fields-inside Shows payload k c xs f
+
+  -- 3. "no two siblings overlapping."
+  pub siblings-apart : Apart (ranges (f .contents) (f .places))
+  siblings-apart = walk.siblings-apart Shows payload k c xs f
+
+  -- and nothing between them is left out
+  pub nothing-left-out : concat (λ r. slice (r .0) (r .1) payload) (ranges (f .contents) (f .places)) ≡ slice (f .contents) (c .end) payload
+  nothing-left-out = walk.nothing-left-out Shows payload k c xs f
+
+-- ---- lookup, of every object that is shown, and any name: it finds the first field of that name, and "not there" exactly if there is none
+module _ (d : ℕ) (payload : List ℕ) (c : Place) (k : Kind) (xs : List (Named (Standing (Layout d)))) (i : Shown (suc d) payload c (k, object xs)) (name : List ℕ) where
+  pub lookup-finds-first : (q : Place) → (lookup payload c name ≡ F.At q) ↔ IsFirst name q (i .node .fields .places) xs
+  lookup-finds-first = walk.lookup-finds-first d payload c k xs i name
+
+  pub not-there-exactly : (lookup payload c name ≡ F.NotThere) ↔ All (λ x. x .0 ≡ name → ⊥) xs
+  not-there-exactly = walk.not-there-exactly d payload c k xs i name

@@ -1,0 +1,1 @@
+// No code: proofs/Demands.antt is the page that states what the owner demands.
