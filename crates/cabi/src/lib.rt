@@ -185,7 +185,8 @@ pub extern "C" fn ajuqvane_top(payload: &[u8], answer: &mut [u64]) -> u32
     }
 }
 
-// A step: the next field's kind, start, end and depth, and where its name begins (it ends at the start).
+// A step: the next field's kind, start, end and depth, and where its name begins (it ends at the start). With some 0 it is the first
+// field; otherwise the one behind the last place, of which last is the end.
 #[no_mangle]
 pub extern "C" fn ajuqvane_step(
     payload: &[u8],
@@ -218,7 +219,7 @@ pub extern "C" fn ajuqvane_step(
     }
 }
 
-// A place's view: where it begins and ends.
+// Where a place's view begins and ends.
 #[no_mangle]
 pub extern "C" fn ajuqvane_view(
     payload: &[u8],
@@ -243,7 +244,7 @@ pub extern "C" fn ajuqvane_view(
     }
 }
 
-// The first field of an object that has a name: its kind, start, end and depth.
+// The first field of an object whose name is byte-equal to this one: its kind, start, end and depth.
 #[no_mangle]
 pub extern "C" fn ajuqvane_lookup<'a>(
     payload: &'a [u8],

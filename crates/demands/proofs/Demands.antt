@@ -4,15 +4,16 @@ use Prim.Native.Nat.{ℕ, suc, _+_, _≤_, _<_}
 use mathlib.Core.Path.{_≡_}
 use mathlib.Core.Logic.{_↔_, _⊎_}
 use mathlib.Core.Option.{some}
-use mathlib.Core.List.{List, []}
+use mathlib.Core.List.{List, [], map}
 use lib.ListN.{length}
 use lib.Seq.{slice}
 use Rattle.number.specs.BigEndian.{All, Bytes}
 use Rattle.format.specs.declared.Kind.{Kind}
 use Rattle.format.specs.declared.Stop.{Stop}
 use Rattle.format.specs.declared.Place.{Place}
+use Rattle.format.specs.declared.After.{After}
+use Rattle.format.specs.declared.Step.the-variants as S
 use Rattle.format.specs.declared.Found.the-variants as F
-use Rattle.format.specs.declared.Top.the-variants as T
 use Rattle.format.specs.Limits.{depthLimit}
 use Rattle.format.specs.Parse.{Flaw}
 use Rattle.format.specs.Tree.{Tree, object}
@@ -22,9 +23,11 @@ use Rattle.format.specs.Mask.{stopValue, flaws, sumOf, paddingOf, mask, boundsO
 use Rattle.format.specs.Places.{lookup}
 use Rattle.format.specs.Places as places
 use Rattle.format.specs.Show.{ShownFields, Shown, ShownPayload}
-use Rattle.format.specs.Stepping.{fieldAt, placeAt, Agree, stepping, events, ranges, Apart, IsFirst}
+use Rattle.format.specs.Stepping.{fieldAt, placeAt, Agree, stepping, events, ranges, payloadRange, Apart, IsFirst}
 use Rattle.format.proofs.Spelling as spelling
 use Rattle.format.proofs.Walk as walk
+use Rattle.read.proofs.AnyStep.{Stepped}
+use Rattle.read.proofs.AnyStep as steps
 
 -- ---- 1. "Whatever bytes, modes, place or write list arrive, every public call ends, reads only what it was lent, and refuses what is bad by itself."
 -- That a call ends, stays inside its slices and has this answer for every input is what the prover shows of a function that has no `requires`:
@@ -69,8 +72,8 @@ encoding-passes = spelling.encoding-passes
 
 -- 3. "and in any payload that the bounds check passes, stepping from the top meets each field of its tree once, in order,"
 pub walk-meets-each-once : (payload : List ℕ) → mask boundsOnly payload ≡ 0
-    → (p : Place) × (k : Kind) × (l : Layout depthLimit) × (places.top payload ≡ T.At p) × (treeOf payload ≡ some (tree depthLimit l)) × (stepping depthLimit payload p ≡ events depthLimit 2 (k, l))
-walk-meets-each-once = walk.walk-meets-each-once
+    → (i : ShownPayload payload) × (stepping depthLimit payload (i .place) ≡ events depthLimit 2 (i .kind, i .layout))
+walk-meets-each-once payload h = let i = walk.every-field-shown payload h in (i, walk.walk-meets-each-once payload i)
 
 -- 3. of every container that is shown, at c, with the fields xs
 module _ {A : Type 0} (Shows : Place → Standing A → Type 0) (payload : List ℕ) (k : Kind) (c : Place) (xs : List (Named (Standing A))) (f : ShownFields Shows payload k c xs) where
@@ -81,13 +84,18 @@ module _ {A : Type 0} (Shows : Place → Standing A → Type 0) (payload : List 
   pub fields-inside : All (λ r. (f .contents ≤ r .0) × (r .0 < r .1) × (r .1 ≤ c .end)) (ranges (f .contents) (f .places))
   fields-inside = walk.fields-inside Shows payload k c xs f
 
-  -- 3. "no two siblings overlapping."
-  pub siblings-apart : Apart (ranges (f .contents) (f .places))
+  -- 3. "no two siblings overlapping", neither with all that stands before their payloads, nor as the places say
+  pub siblings-apart : Apart (ranges (f .contents) (f .places)) × Apart (map payloadRange (f .places))
   siblings-apart = walk.siblings-apart Shows payload k c xs f
 
   -- and nothing between them is left out
   pub nothing-left-out : concat (λ r. slice (r .0) (r .1) payload) (ranges (f .contents) (f .places)) ≡ slice (f .contents) (c .end) payload
   nothing-left-out = walk.nothing-left-out Shows payload k c xs f
+
+-- ---- and of any payload, at fault or not, and any place, forged or not: a field that a step gives lies in its container, behind the last one, one deeper, and
+-- its place passes the check
+pub any-step : (payload : List ℕ) (c : Place) (last : After) (q : Place) (name : ℕ) → places.step payload c last ≡ S.Field q name → Stepped payload c last q name
+any-step = steps.any-step
 
 -- ---- lookup, of every object that is shown, and any name: it finds the first field of that name, and "not there" exactly if there is none
 module _ (d : ℕ) (payload : List ℕ) (c : Place) (k : Kind) (xs : List (Named (Standing (Layout d)))) (i : Shown (suc d) payload c (k, object xs)) (name : List ℕ) where

@@ -1,129 +1,53 @@
 -- Faults as the code keeps them: one flaw more, no flaw, and flaws behind flaws.
 use Prim.Native.Nat.{ℕ}
-use mathlib.Core.Path.{_≡_, refl, sym}
-use mathlib.Core.Bool.{Bool, true, false, not, _&&_, _||_}
+use mathlib.Core.Path.{_≡_, refl}
+use mathlib.Core.Bool.{Bool, true, false, _&&_}
 use mathlib.Core.List.{List, [], _∷_, _++_}
-use lib.Dec.{eqb}
+use lib.Bits.{bitOr}
 use Rattle.format.specs.declared.Modes.{Modes}
 use Rattle.format.specs.declared.Faults.{Faults}
 use Rattle.format.specs.declared.Stop.{Stop}
-use Rattle.format.specs.Parse.{Flaw, twin, blank, long, low, wide, notText, notUniform, Out, fault, got, withFlaws, bind, raise}
-use Rattle.format.specs.Mask.{flawValue, has}
-use Rattle.format.specs.Code.{noted, flawIf, answerOf}
-
-pub same-faults : (g h : Faults) → g .twin ≡ h .twin → g .blank ≡ h .blank → g .long ≡ h .long → g .low ≡ h .low → g .wide ≡ h .wide → g .text ≡ h .text → g .uniform ≡ h .uniform → g ≡ h
-same-faults g h a b c d e f u = λ i. record { twin = a i; blank = b i; long = c i; low = d i; wide = e i; text = f i; uniform = u i }
+use Rattle.format.specs.Parse.{Flaw, Out, fault, got, withFlaws, bind, raise}
+use Rattle.format.specs.Mask.{flawValue}
+use Rattle.format.specs.Code.{marked, asks, noted, flawIf, answerOf}
 
 -- ---- one flaw, or none
 
-keep : (a b : Bool) → a ≡ (a || (b && false))
-keep true b = refl
-keep false true = refl
-keep false false = refl
+pub marked-met : (g : Faults) (x : Bool) (v : ℕ) → x ≡ true → record { sum = bitOr (g .sum) v } ≡ marked g x v
+marked-met g x v e = rw e
 
-on : (f : Flaw) (x : Bool) → has f (flawIf x f) ≡ x
-on f false = refl
-on twin true = refl
-on blank true = refl
-on long true = refl
-on low true = refl
-on wide true = refl
-on notText true = refl
-on notUniform true = refl
-
-off : (f g : Flaw) (x : Bool) → eqb (flawValue f) (flawValue g) ≡ false → has f (flawIf x g) ≡ false
-off f g false e = refl
-off f g true e = rw e
-
-module _ (m : Modes) (g : Faults) (x : Bool) where
-  other : (f h : Flaw) (a b : Bool) → eqb (flawValue f) (flawValue h) ≡ false → a ≡ (a || (b && has f (flawIf x h)))
-  other f h a b e = rw (off f h x e) (keep a b)
-
-  own : (f : Flaw) (a b : Bool) → (a || (b && x)) ≡ (a || (b && has f (flawIf x f)))
-  own f a b = rw (on f x)
-
-  pub mark-twin : record { twin = g .twin || (m .names && x); blank = g .blank; long = g .long; low = g .low; wide = g .wide; text = g .text; uniform = g .uniform } ≡ noted m g (flawIf x twin)
-  unfolding noted
-  mark-twin = same-faults _ _ (own twin (g .twin) (m .names)) (other blank twin (g .blank) (m .names) refl) (other long twin (g .long) (m .format) refl) (other low twin (g .low) (m .format) refl)
-      (other wide twin (g .wide) (m .format) refl) (other notText twin (g .text) (m .format) refl) (other notUniform twin (g .uniform) (m .format) refl)
-
-  pub mark-blank : record { twin = g .twin; blank = g .blank || (m .names && x); long = g .long; low = g .low; wide = g .wide; text = g .text; uniform = g .uniform } ≡ noted m g (flawIf x blank)
-  unfolding noted
-  mark-blank = same-faults _ _ (other twin blank (g .twin) (m .names) refl) (own blank (g .blank) (m .names)) (other long blank (g .long) (m .format) refl) (other low blank (g .low) (m .format) refl)
-      (other wide blank (g .wide) (m .format) refl) (other notText blank (g .text) (m .format) refl) (other notUniform blank (g .uniform) (m .format) refl)
-
-  pub mark-long : record { twin = g .twin; blank = g .blank; long = g .long || (m .format && x); low = g .low; wide = g .wide; text = g .text; uniform = g .uniform } ≡ noted m g (flawIf x long)
-  unfolding noted
-  mark-long = same-faults _ _ (other twin long (g .twin) (m .names) refl) (other blank long (g .blank) (m .names) refl) (own long (g .long) (m .format)) (other low long (g .low) (m .format) refl)
-      (other wide long (g .wide) (m .format) refl) (other notText long (g .text) (m .format) refl) (other notUniform long (g .uniform) (m .format) refl)
-
-  pub mark-low : record { twin = g .twin; blank = g .blank; long = g .long; low = g .low || (m .format && x); wide = g .wide; text = g .text; uniform = g .uniform } ≡ noted m g (flawIf x low)
-  unfolding noted
-  mark-low = same-faults _ _ (other twin low (g .twin) (m .names) refl) (other blank low (g .blank) (m .names) refl) (other long low (g .long) (m .format) refl) (own low (g .low) (m .format))
-      (other wide low (g .wide) (m .format) refl) (other notText low (g .text) (m .format) refl) (other notUniform low (g .uniform) (m .format) refl)
-
-  pub mark-wide : record { twin = g .twin; blank = g .blank; long = g .long; low = g .low; wide = g .wide || (m .format && x); text = g .text; uniform = g .uniform } ≡ noted m g (flawIf x wide)
-  unfolding noted
-  mark-wide = same-faults _ _ (other twin wide (g .twin) (m .names) refl) (other blank wide (g .blank) (m .names) refl) (other long wide (g .long) (m .format) refl) (other low wide (g .low) (m .format) refl)
-      (own wide (g .wide) (m .format)) (other notText wide (g .text) (m .format) refl) (other notUniform wide (g .uniform) (m .format) refl)
-
-  pub mark-text : record { twin = g .twin; blank = g .blank; long = g .long; low = g .low; wide = g .wide; text = g .text || (m .format && x); uniform = g .uniform } ≡ noted m g (flawIf x notText)
-  unfolding noted
-  mark-text = same-faults _ _ (other twin notText (g .twin) (m .names) refl) (other blank notText (g .blank) (m .names) refl) (other long notText (g .long) (m .format) refl) (other low notText (g .low) (m .format) refl)
-      (other wide notText (g .wide) (m .format) refl) (own notText (g .text) (m .format)) (other notUniform notText (g .uniform) (m .format) refl)
-
-  pub mark-uniform : record { twin = g .twin; blank = g .blank; long = g .long; low = g .low; wide = g .wide; text = g .text; uniform = g .uniform || (m .format && x) } ≡ noted m g (flawIf x notUniform)
-  unfolding noted
-  mark-uniform = same-faults _ _ (other twin notUniform (g .twin) (m .names) refl) (other blank notUniform (g .blank) (m .names) refl) (other long notUniform (g .long) (m .format) refl) (other low notUniform (g .low) (m .format) refl)
-      (other wide notUniform (g .wide) (m .format) refl) (other notText notUniform (g .text) (m .format) refl) (own notUniform (g .uniform) (m .format))
-
--- ---- no flaw, and flaws behind flaws
+pub marked-not : (g : Faults) (x : Bool) (v : ℕ) → x ≡ false → g ≡ marked g x v
+marked-not g x v e = rw e
 
 pub noted-none : (m : Modes) (g : Faults) → noted m g [] ≡ g
 unfolding noted
-noted-none m g =
-    same-faults _ _ (sym (keep (g .twin) (m .names))) (sym (keep (g .blank) (m .names))) (sym (keep (g .long) (m .format))) (sym (keep (g .low) (m .format))) (sym (keep (g .wide) (m .format)))
-    (sym (keep (g .text) (m .format))) (sym (keep (g .uniform) (m .format)))
+noted-none m g = refl
 
--- text that is not asked about
-none : (a b : Bool) → (a || (false && b)) ≡ a
-none true b = refl
-none false b = refl
-
-pub text-unasked : (m : Modes) (g : Faults) (x : Bool) → m .format ≡ false → noted m g (flawIf x notText) ≡ g
+pub noted-one : (m : Modes) (g : Faults) (x : Bool) (f : Flaw) → marked g (asks m f && x) (flawValue f) ≡ noted m g (flawIf x f)
 unfolding noted
-text-unasked m g false e = noted-none m g
-text-unasked m g true e =
-    rw e (same-faults _ _ (sym (keep (g .twin) (m .names))) (sym (keep (g .blank) (m .names))) (none (g .long) false) (none (g .low) false) (none (g .wide) false) (none (g .text) true) (none (g .uniform) false))
-
-pub unasked-twin : (m : Modes) (g : Faults) (x : Bool) → m .names ≡ false → noted m g (flawIf x twin) ≡ g
-unfolding noted
-unasked-twin m g false e = noted-none m g
-unasked-twin m g true e =
-    rw e (same-faults _ _ (none (g .twin) true) (none (g .blank) false) (sym (keep (g .long) (m .format))) (sym (keep (g .low) (m .format))) (sym (keep (g .wide) (m .format))) (sym (keep (g .text) (m .format)))
-    (sym (keep (g .uniform) (m .format))))
-
-has-append : (f : Flaw) (fs gs : List Flaw) → has f (fs ++ gs) ≡ (has f fs || has f gs)
-has-append f [] gs = refl
-has-append f (h ∷ fs) gs = rw (has-append f fs gs) (assoc (eqb (flawValue f) (flawValue h)) (has f fs) (has f gs))
+noted-one m g true f = at (asks m f)
   where
-    assoc : (a b c : Bool) → (a || (b || c)) ≡ ((a || b) || c)
-    assoc true b c = refl
-    assoc false b c = refl
+    at : (b : Bool) → marked g (b && true) (flawValue f) ≡ marked g b (flawValue f)
+    at true = refl
+    at false = refl
+noted-one m g false f = at (asks m f)
+  where
+    at : (b : Bool) → marked g (b && false) (flawValue f) ≡ g
+    at true = refl
+    at false = refl
 
-more : (a m x y : Bool) → ((a || (m && x)) || (m && y)) ≡ (a || (m && (x || y)))
-more true m x y = refl
-more false true x y = refl
-more false false x y = refl
+-- a flaw that is not asked for
+pub unasked : (m : Modes) (g : Faults) (x : Bool) (f : Flaw) → asks m f ≡ false → noted m g (flawIf x f) ≡ g
+unfolding noted
+unasked m g true f e = rw e
+unasked m g false f e = refl
+
+-- ---- flaws behind flaws
 
 pub noted-more : (m : Modes) (g : Faults) (fs gs : List Flaw) → noted m (noted m g fs) gs ≡ noted m g (fs ++ gs)
 unfolding noted
-noted-more m g fs gs =
-    same-faults _ _ (each twin (g .twin) (m .names)) (each blank (g .blank) (m .names)) (each long (g .long) (m .format)) (each low (g .low) (m .format)) (each wide (g .wide) (m .format))
-    (each notText (g .text) (m .format)) (each notUniform (g .uniform) (m .format))
-  where
-    each : (f : Flaw) (a b : Bool) → ((a || (b && has f fs)) || (b && has f gs)) ≡ (a || (b && has f (fs ++ gs)))
-    each f a b = rw (has-append f fs gs) (more a b (has f fs) (has f gs))
+noted-more m g [] gs = refl
+noted-more m g (f ∷ fs) gs = noted-more m (marked g (asks m f) (flawValue f)) fs gs
 
 -- ---- answers
 

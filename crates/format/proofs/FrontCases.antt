@@ -33,7 +33,7 @@ use Rattle.format.specs.Kinds.{kindAt}
 use Rattle.format.specs.Parse.{blank, long, notText}
 use Rattle.format.specs.Code.{noted, flawIf, frontAt}
 use Rattle.format.specs.Pieces.{between, typedOf, typedAt, spanOf, spanAt, textOf, textAt, namedAt, plainOf}
-use Rattle.format.proofs.FaultLaws.{text-unasked}
+use Rattle.format.proofs.FaultLaws.{unasked}
 use Rattle.format.proofs.HeadLaws.{Inside, part-length, front-is}
 
 -- ---- the type byte
@@ -110,7 +110,7 @@ module _ (m : Modes) (g : Faults) (s : List ℕ) (x : Span) (e : x ≡ spanAt m 
 
     pub text-passed : m .format ≡ false → P.Part a b h ≡ textAt m g s
     unfolding textAt
-    text-passed y = rw (← e, z, text-unasked m h (not (isText (between a b s))) y)
+    text-passed y = rw (← e, z, unasked m h (not (isText (between a b s))) notText y)
 
 -- where a text lies
 module _ (m : Modes) (g : Faults) (s : List ℕ) (x : Span) (e : x ≡ textAt m g s) (a b : ℕ) (h : Faults) (z : x ≡ P.Part a b h) where

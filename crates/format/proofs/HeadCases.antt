@@ -37,7 +37,7 @@ use Rattle.format.specs.declared.Inner.the-variants as I
 use Rattle.format.specs.Kinds.{kindAt, isBare}
 use Rattle.format.specs.Parse.{long, low, wide}
 use Rattle.format.specs.Code.{noted, flawIf, headAt}
-use Rattle.format.specs.Pieces.{between, spanAt, textAt, classOf, fixedAt, positiveOf, negativeOf, doubleAt, leafOf, idOf, nameOf, countOf, sharedFieldsOf, sharedItemsOf, sharedCountOf, insideOf, headBy}
+use Rattle.format.specs.Pieces.{between, spanAt, textAt, classOf, fixedSize, fixedAt, positiveOf, negativeOf, doubleAt, leafOf, idOf, nameOf, countOf, sharedFieldsOf, sharedItemsOf, sharedCountOf, insideOf, headBy}
 use Rattle.format.proofs.Lists.{drop-take}
 use Rattle.format.proofs.HeadLaws.{part-length, head-is}
 
@@ -215,3 +215,24 @@ module _ (k : Kind) (m : Modes) (g : Faults) (s : List ℕ) (c : Class) (r : Hea
 
   pub head-behind : (i : Inner) → c ≡ C.Behind i → r ≡ insideOf i m s (spanAt m g s) → r ≡ headAt k m g s
   head-behind i z w = by (C.Behind i) z w
+
+-- ---- the size that a kind has
+
+module _ (k : Kind) (c : Class) (e : c ≡ classOf k) where
+  pub size-fixed : (n : ℕ) → c ≡ C.Fixed n → n ≡ fixedSize k
+  size-fixed n z = rw (← e, z)
+
+  pub size-text : c ≡ C.Text → 0 ≡ fixedSize k
+  size-text z = rw (← e, z)
+
+  pub size-positive : c ≡ C.Positive → 0 ≡ fixedSize k
+  size-positive z = rw (← e, z)
+
+  pub size-negative : c ≡ C.Negative → 0 ≡ fixedSize k
+  size-negative z = rw (← e, z)
+
+  pub size-wide : c ≡ C.Wide → 0 ≡ fixedSize k
+  size-wide z = rw (← e, z)
+
+  pub size-behind : (i : Inner) → c ≡ C.Behind i → 0 ≡ fixedSize k
+  size-behind i z = rw (← e, z)

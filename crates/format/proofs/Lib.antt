@@ -11,6 +11,7 @@ pub mod Masks
 pub mod Strict
 pub mod BytesOf
 pub mod FaultLaws
+pub mod FaultSums
 pub mod HeadLaws
 pub mod FrontCases
 pub mod HeadCases

@@ -127,11 +127,11 @@ shown (suc d) s c x m i = record { kind = i .coded; no-fault = no-fault d s c x 
 
 -- what is read from the top is shown from the top place on
 pub shown-top : (s : List ℕ) (x : Named (Standing (Layout depthLimit))) (fs : List Flaw) (r : List ℕ) → length s ≤ lengthLimit → read depthLimit Fo.Top s ≡ got x fs r
-    → (p : Place) × (top s ≡ T.At p) × (p .start ≡ 1) × (p .end ≤ length s) × (p .depth ≡ 1) × Shown depthLimit s p (x .1)
+    → (p : Place) × (top s ≡ T.At p) × (p .start ≡ 1) × (p .end + length r ≡ length s) × (p .depth ≡ 1) × Shown depthLimit s p (x .1) × (x .0 ≡ [])
 unfolding read top meet
 shown-top s x fs r m h =
     let i = field-met 31 s 1 (length s) Fo.Top 0 s x fs r tt (part-all s) (omega arith) (omega arith) (omega arith) h in
     let e = read-unnamed depthLimit Fo.Top s tt h in
     let n : length (slice 0 (i .name-start) s) ≡ i .name-start - 0 = length-slice 0 (i .name-start) s (omega (arith, i .then-name, i .then-payload, i .left)) in
     let l : length (slice 0 (i .name-start) s) ≡ 1 = ap length (i .before) in
-    (i .place, rw (le-ltb lengthLimit (length s) m, i .meets), omega (arith, ap length e, i .name-is, i .then-name), omega (arith, i .left), i .deeper, shown depthLimit s (i .place) (x .1) m (i .good))
+    (i .place, rw (le-ltb lengthLimit (length s) m, i .meets), omega (arith, ap length e, i .name-is, i .then-name), i .left, i .deeper, shown depthLimit s (i .place) (x .1) m (i .good), e)

@@ -1,10 +1,10 @@
 -- Every field reached shows what the layout gives it; the walk; lookup: the theorems about the definitions, in the mission's words. What `ShownPayload`,
--- `Shown`, `ShownFields`, `stepping`, `events`, `ranges`, `Apart` and `IsFirst` say, specs/Show.antt has.
+-- `Shown` and `ShownFields` say, specs/Show.antt has, and of `Agree`, `stepping`, `events`, `ranges`, `Apart` and `IsFirst`, specs/Stepping.antt.
 use Prim.Native.Nat.{ℕ, suc, _+_, _≤_, _<_}
 use mathlib.Core.Path.{_≡_, refl, ap, sym, _∙_}
 use mathlib.Core.Logic.{_↔_}
 use mathlib.Core.Option.{some}
-use mathlib.Core.List.{List, []}
+use mathlib.Core.List.{List, [], map}
 use lib.ListN.{length}
 use lib.Seq.{slice}
 use borrow.Author.Tests.{le-ltb}
@@ -15,6 +15,7 @@ use Rattle.format.specs.declared.Place.{Place}
 use Rattle.format.specs.declared.After.the-variants.{Start}
 use Rattle.format.specs.declared.Found.the-variants as F
 use Rattle.format.specs.declared.Top.the-variants as T
+use Rattle.format.specs.Parse.{got}
 use Rattle.format.specs.Limits.{depthLimit, lengthLimit}
 use Rattle.format.specs.Tree.{Tree, object}
 use Rattle.format.specs.Encoding.{concat, encoding, WithinLimits}
@@ -23,10 +24,10 @@ use Rattle.format.specs.Reader.{Standing, Named, Layout, tree, read, tre
 use Rattle.format.specs.Mask.{mask, boundsOnly}
 use Rattle.format.specs.Places.{top, lookup}
 use Rattle.format.specs.Show.{ShownFields, Shown, ShownPayload}
-use Rattle.format.specs.Stepping.{fieldAt, placeAt, Agree, stepping, events, ranges, Apart, IsFirst}
+use Rattle.format.specs.Stepping.{fieldAt, placeAt, Agree, stepping, events, ranges, payloadRange, Apart, IsFirst}
 use Rattle.format.proofs.Masks.{mask-case, bounds-case}
 use Rattle.format.proofs.Showing.{shown-top}
-use Rattle.format.proofs.WalkFacts.{walk-each, walk-ranges, walk-fills, steps-events, path-agrees, none-found, first-found}
+use Rattle.format.proofs.WalkFacts.{walk-each, walk-ranges, walk-fills, walk-apart, steps-events, path-agrees, none-found, first-found}
 use Rattle.format.proofs.Spelling.{encoding-passes, one-tree}
 
 -- 1. Every field reached shows what the layout gives it: for every payload that the bounds check passes, tidy or not, for every field of its tree, the place
@@ -38,11 +39,14 @@ every-field-shown s h = mask-case boundsOnly s h λ l m. bounds-case (read depth
     record {
       kind = x .1 .0;
       layout = x .1 .1;
+      flaws = fs;
+      left = r;
+      was-read = e ∙ ap (λ (n : List ℕ). got (n, x .1) fs r) (i .6);
       place = i .0;
       its-tree = rw (le-ltb lengthLimit (length s) l, e);
       is-top = i .1;
       begins = i .2;
-      within = i .3;
+      ends = i .3;
       depth-1 = i .4;
       shown = i .5;
     }
@@ -59,19 +63,10 @@ encoding-shown t w =
     let i = every-field-shown (encoding depthLimit t) (e .0 boundsOnly) in
     (i, one-tree (encoding depthLimit t) (tree depthLimit (i .layout)) t (i .its-tree) (e .1))
 
--- 2. The walk: in any payload that the bounds check alone passes, stepping from the top, and in each field met, meets each field of its tree once, in order,
--- with its name and kind, one deeper than its container; then "no more", and on a leaf "wrong kind"
-pub walk-meets-each-once : (s : List ℕ) → mask boundsOnly s ≡ 0
-    → (p : Place) × (k : Kind) × (l : Layout depthLimit) × (top s ≡ T.At p) × (treeOf s ≡ some (tree depthLimit l)) × (stepping depthLimit s p ≡ events depthLimit 2 (k, l))
-walk-meets-each-once s h =
-    let i = every-field-shown s h in (
-      i .place,
-      i .kind,
-      i .layout,
-      i .is-top,
-      i .its-tree,
-      steps-events depthLimit s (i .place) (i .kind, i .layout) (i .shown) ∙ ap (λ (n : ℕ). events depthLimit (n + 1) (i .kind, i .layout)) (i .depth-1),
-    )
+-- 2. The walk: in any payload that the bounds check alone passes (so that there is an i), stepping from the top, and in each field met, meets each field of its
+-- tree once, in order, with its name and kind, one deeper than its container; then "no more", and on a leaf "wrong kind"
+pub walk-meets-each-once : (s : List ℕ) (i : ShownPayload s) → stepping depthLimit s (i .place) ≡ events depthLimit 2 (i .kind, i .layout)
+walk-meets-each-once s i = steps-events depthLimit s (i .place) (i .kind, i .layout) (i .shown) ∙ ap (λ (n : ℕ). events depthLimit (n + 1) (i .kind, i .layout)) (i .depth-1)
 
 -- 2. of every container that is shown
 module _ {A : Type 0} (Shows : Place → Standing A → Type 0) (s : List ℕ) (k : Kind) (c : Place) (xs : List (Named (Standing A))) (f : ShownFields Shows s k c xs) where
@@ -87,9 +82,10 @@ module _ {A : Type 0} (Shows : Place → Standing A → Type 0) (s : List ℕ) (
   pub nothing-left-out : concat (λ r. slice (r .0) (r .1) s) (ranges (f .contents) (f .places)) ≡ slice (f .contents) (c .end) s
   nothing-left-out = walk-fills Shows s c (payload k) (f .contents) Start (f .places) xs (f .walk)
 
-  -- 2. no two siblings overlapping
-  pub siblings-apart : Apart (ranges (f .contents) (f .places))
-  siblings-apart = walk-ranges Shows s c (payload k) (f .contents) Start (f .places) xs (f .walk) .1
+  -- 2. no two siblings overlapping, neither with all that stands before their payloads, nor as the places say
+  pub siblings-apart : Apart (ranges (f .contents) (f .places)) × Apart (map payloadRange (f .places))
+  siblings-apart =
+      (walk-ranges Shows s c (payload k) (f .contents) Start (f .places) xs (f .walk) .1, walk-apart Shows s c (payload k) (f .contents) Start (f .places) xs (f .walk))
 
 -- 3. of every object that is shown, and any name m
 module _ (d : ℕ) (s : List ℕ) (c : Place) (k : Kind) (xs : List (Named (Standing (Layout d)))) (i : Shown (suc d) s c (k, object xs)) (m : List ℕ) where

@@ -23,7 +23,7 @@ use Rattle.format.specs.Payload.{Payload, payload}
 use Rattle.format.specs.Reader.{Standing, Named, Layout}
 use Rattle.format.specs.Places.{nameView}
 use Rattle.format.specs.Show.{Walk, firstOf, ShownFields, ShownNode, Shown, unnamed}
-use Rattle.format.specs.Stepping.{nth, fieldsOf, onward, fieldAt, stepTo, placeAt, Agree, Event, met, stepsFrom, stepping, fieldEvents, nodeEvents, events, ranges, Apart, IsFirst}
+use Rattle.format.specs.Stepping.{nth, fieldsOf, onward, fieldAt, stepTo, placeAt, Agree, Event, met, stepsFrom, stepping, fieldEvents, nodeEvents, events, ranges, payloadRange, Apart, IsFirst}
 use Rattle.format.proofs.Lists.{all-of}
 use Rattle.format.proofs.Parts.{slice-join}
 use Rattle.format.proofs.Steps.{walk-few}
@@ -50,6 +50,19 @@ module _ {A : Type 0} (P : Place → Standing A → Type 0) (s : List ℕ) (c : 
   walk-fills a l [] (x ∷ xs) w = absurd w
   walk-fills a l (q ∷ ps) [] w = absurd w
   walk-fills a l (q ∷ ps) (x ∷ xs) w = rw (walk-fills (q .end) (Last q) ps xs (w .1)) (slice-join a (q .end) (c .end) s (omega (arith, w .0 .some-byte)) (w .0 .within))
+
+  walk-behind : (a : ℕ) (l : After) (ps : List Place) (xs : List (Named (Standing A))) → Walk P s c how a l ps xs → All (λ r. a ≤ r .0) (map payloadRange ps)
+  walk-behind a l [] [] w = tt
+  walk-behind a l [] (x ∷ xs) w = absurd w
+  walk-behind a l (q ∷ ps) [] w = absurd w
+  walk-behind a l (q ∷ ps) (x ∷ xs) w =
+      (omega (arith, w .0 .begins, w .0 .then-name), all-of _ _ (λ r j. omega (arith, j, w .0 .some-byte)) (map payloadRange ps) (walk-behind (q .end) (Last q) ps xs (w .1)))
+
+  pub walk-apart : (a : ℕ) (l : After) (ps : List Place) (xs : List (Named (Standing A))) → Walk P s c how a l ps xs → Apart (map payloadRange ps)
+  walk-apart a l [] [] w = tt
+  walk-apart a l [] (x ∷ xs) w = absurd w
+  walk-apart a l (q ∷ ps) [] w = absurd w
+  walk-apart a l (q ∷ ps) (x ∷ xs) w = (walk-behind (q .end) (Last q) ps xs (w .1), walk-apart (q .end) (Last q) ps xs (w .1))
 
   -- if each field is stepped through to the events below it, then so are they all
   pub walk-events : (below : Place → List Event) (within : Standing A → List Event) → ((q : Place) (y : Standing A) → q .depth ≡ c .depth + 1 → P q y → (below q ≡ within y) × (q .kind ≡ id (y .0)))

@@ -1,8 +1,10 @@
 -- What the code answers, of the definitions' readers: positions in the part that was lent for what is left, and one record for the flaws met.
-use Prim.Native.Nat.{ℕ, _-_}
-use mathlib.Core.Bool.{Bool, true, false, _&&_, _||_}
+use Prim.Native.Nat.{ℕ, _-_, _/_, _%_}
+use mathlib.Core.Bool.{Bool, true, false}
 use mathlib.Core.List.{List, [], _∷_}
 use lib.ListN.{length}
+use lib.Bits.{bitOr}
+use lib.Dec.{eqb}
 use Rattle.format.specs.declared.Kind.{Kind}
 use Rattle.format.specs.declared.Form.{Form}
 use Rattle.format.specs.declared.Stop.{Stop}
@@ -19,22 +21,39 @@ use Rattle.format.specs.declared.Met.{Met}
 use Rattle.format.specs.declared.Met.the-variants as M
 use Rattle.format.specs.Parse.{Flaw, twin, blank, long, low, wide, notText, notUniform, Out, fault, got, bind, make}
 use Rattle.format.specs.Kinds.{id}
-use Rattle.format.specs.Mask.{has}
+use Rattle.format.specs.Mask.{flawValue}
 use Rattle.format.specs.Payload.{front, Head, value, fieldsIn, itemsIn, head}
 
 -- ---- flaws
 
+abbrev pub nothing : Faults
+nothing = record { sum = 0 }
+
+-- a flaw with the value v beside those noted before, if it was met
+abbrev pub marked : Faults → Bool → ℕ → Faults
+marked g true v = record { sum = bitOr (g .sum) v }
+marked g false v = g
+
+-- it is asked for
+abbrev pub asks : Modes → Flaw → Bool
+asks m twin = m .names
+asks m blank = m .names
+asks m long = m .format
+asks m low = m .format
+asks m wide = m .format
+asks m notText = m .format
+asks m notUniform = m .format
+
 -- these flaws beside those noted before, of what is asked
 unfoldable pub noted : Modes → Faults → List Flaw → Faults
-noted m g fs = record {
-  twin = g .twin || (m .names && has twin fs);
-  blank = g .blank || (m .names && has blank fs);
-  long = g .long || (m .format && has long fs);
-  low = g .low || (m .format && has low fs);
-  wide = g .wide || (m .format && has wide fs);
-  text = g .text || (m .format && has notText fs);
-  uniform = g .uniform || (m .format && has notUniform fs);
-}
+noted m g [] = g
+noted m g (f ∷ fs) = noted m (marked g (asks m f) (flawValue f)) fs
+
+abbrev pub isNoted : Flaw → Faults → Bool
+isNoted f g = eqb (g .sum / flawValue f % 2) 1
+
+abbrev pub sumIn : Faults → ℕ
+sumIn g = g .sum
 
 abbrev pub flawIf : Bool → Flaw → List Flaw
 flawIf true f = f ∷ []

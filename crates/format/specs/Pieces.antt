@@ -119,6 +119,18 @@ classOf ObjectId = C.Fixed 12
 classOf CustomById = C.Behind I.ById
 classOf CustomByName = C.Behind I.ByName
 
+-- how many bytes a payload has by its kind, whatever they are; 0 for the other kinds, and for 01, 0C and 0D
+abbrev pub fixedIn : Class → ℕ
+fixedIn (C.Fixed n) = n
+fixedIn C.Text = 0
+fixedIn C.Positive = 0
+fixedIn C.Negative = 0
+fixedIn C.Wide = 0
+fixedIn (C.Behind i) = 0
+
+abbrev pub fixedSize : Kind → ℕ
+fixedSize k = fixedIn (classOf k)
+
 unfoldable pub fixedAt : ℕ → Faults → List ℕ → Heading
 fixedAt n g s = cond (ltb (length s) n) (H.Stop Early) (H.Leaf n g)
 

@@ -1,5 +1,5 @@
 -- What the calls show of a payload: the words in which proofs/Walk.antt states it (document 01, "Places, views and values"). A layout is the tree with
--- each field's kind as it stands (Reader.antt); `Shown`, at the end, says what the calls answer at the place of each of its fields.
+-- each field's kind as it stands (Reader.antt); `Shown` says what the calls answer at the place of each of its fields, and `ShownPayload` ties it to a payload.
 use Prim.Native.Nat.{ℕ, zero, suc, _+_, _-_, _^_, _≤_, _<_}
 use mathlib.Core.Path.{_≡_}
 use mathlib.Core.Logic.{_⊎_}
@@ -16,6 +16,7 @@ use Rattle.float.specs.Width.{widen, ofInteger}
 use Rattle.format.specs.declared.Kind.{Kind}
 use Rattle.format.specs.declared.Kind.the-variants.{Null, Object, UniformObject, Array, UniformArray, Binary, String, IntegerPositive, IntegerNegative, Float32, Float64, False, True, ObjectAttachment, BinaryAttachment, Hash, Uuid, DateTime, TimeSpan, ObjectId, CustomById, CustomByName}
 use Rattle.format.specs.declared.Mark.the-variants.{OfField, OfItem, SharedByFields, SharedByItems}
+use Rattle.format.specs.declared.Form.the-variants as Fo
 use Rattle.format.specs.declared.Place.{Place}
 use Rattle.format.specs.declared.After.{After}
 use Rattle.format.specs.declared.After.the-variants.{Start, Last}
@@ -33,7 +34,7 @@ use Rattle.format.specs.Kinds.{id, typeByte}
 use Rattle.format.specs.Parse.{Flaw, Out, got, readVarUInt}
 use Rattle.format.specs.Tree.{Float, number, nan32, nan64, Leaf, null, bool, integer, float, binary, string, objectAttachment, binaryAttachment, hash, uuid, objectId, dateTime, timeSpan, customById, customByName, Node, atom, array, object}
 use Rattle.format.specs.Payload.{Payload, leaf, fields, sharedFields, items, sharedItems, payload}
-use Rattle.format.specs.Reader.{Standing, Named, Layout, tree, kindsIn, treeOf}
+use Rattle.format.specs.Reader.{Standing, Named, Layout, tree, kindsIn, read, treeOf}
 use Rattle.format.specs.Places.{checked, top, step, nameView, view, lookup}
 use Rattle.format.specs.Values.{Sort, whole, real, time, other, sortOf, floatBits, double, signed, unsigned, ticks}
 
@@ -186,14 +187,17 @@ abbrev pub Shown : (d : ℕ) → List ℕ → Place → Standing (Layout d) → 
 Shown zero s p x = ⊥
 Shown (suc d) s p x = ShownField (Shown d s) s p x
 
--- of a payload: the top place, read at byte 0, and all that stands below it
+-- of a payload: what the reader reads in it, the top place, read at byte 0, and all that stands below it. What is left stands behind the top place
 pub record ShownPayload (s : List ℕ) : Type 0 where
   pub kind : Kind
   pub layout : Layout depthLimit
+  pub flaws : List Flaw
+  pub left : List ℕ
+  pub was-read : read depthLimit Fo.Top s ≡ got ([], (kind, layout)) flaws left
   pub place : Place
   pub its-tree : treeOf s ≡ some (tree depthLimit layout)
   pub is-top : top s ≡ P.At place
   pub begins : place .start ≡ 1
-  pub within : place .end ≤ length s
+  pub ends : place .end + length left ≡ length s
   pub depth-1 : place .depth ≡ 1
   pub shown : Shown depthLimit s place (kind, layout)

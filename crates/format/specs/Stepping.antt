@@ -119,6 +119,10 @@ abbrev pub ranges : ℕ → List Place → List (ℕ × ℕ)
 ranges a [] = []
 ranges a (q ∷ ps) = (a, q .end) ∷ ranges (q .end) ps
 
+-- a payload alone, as a place says
+abbrev pub payloadRange : Place → ℕ × ℕ
+payloadRange q = (q .start, q .end)
+
 -- each ends no later than any behind it begins
 abbrev pub Apart : List (ℕ × ℕ) → Type 0
 Apart [] = Unit {0}

@@ -6,11 +6,12 @@ ghost use Prim.Native.Nat.{_+_, _-_, _^_, _≤_, _<_};
 ghost use lib.Dec.{ltb};
 ghost use lib.ListN.{length, take, drop};
 ghost use Rattle.number.specs.VarUInt.{varUInt};
+ghost use Rattle.format.specs.declared.Form.the-variants.{SharedField};
 ghost use Rattle.format.specs.Kinds.{id, known, flags, kindAt, isBare};
-ghost use Rattle.format.specs.Parse.{blank, long, low, wide, notText};
-ghost use Rattle.format.specs.Code.{noted, flawIf, frontAt, headAt, meetAt, topAt};
+ghost use Rattle.format.specs.Parse.{twin, blank, long, low, wide, notText, notUniform};
+ghost use Rattle.format.specs.Code.{nothing, marked, noted, flawIf, isNoted, sumIn, frontAt, headAt, meetAt, topAt};
 ghost use Rattle.format.specs.Places.{top};
-ghost use Rattle.format.specs.Pieces.{between, typedAt, spanAt, textAt, namedAt, plainOf, classOf, fixedAt, positiveOf, negativeOf, doubleAt, leafOf, idOf, nameOf, countOf, sharedFieldsOf, sharedItemsOf, sharedCountOf, insideOf};
+ghost use Rattle.format.specs.Pieces.{between, typedAt, spanAt, textAt, namedAt, plainOf, classOf, fixedSize, fixedAt, positiveOf, negativeOf, doubleAt, leafOf, idOf, nameOf, countOf, sharedFieldsOf, sharedItemsOf, sharedCountOf, insideOf};
 
 // The kinds of a field ("Kinds and payloads").
 pub enum Kind {
@@ -68,9 +69,9 @@ pub enum Form {
 pub enum Stop {
     // Bytes end early, a size does not fit, a counted item is missing, bytes are left; a place or a step that lies outside.
     Early,
-    // Unknown ID, or other flag bits than the place asks.
+    // Unknown ID, or other flag bits than the place asks; a place of no kind.
     Unknown,
-    // A field at depth 33.
+    // A field at depth 33; a place at depth 0 or past 32.
     TooDeep,
     // Input over 65,536 bytes.
     TooLong,
@@ -103,16 +104,7 @@ impl Place {
             names: false,
             format: false,
         };
-        let faults = Faults {
-            twin: false,
-            blank: false,
-            long: false,
-            low: false,
-            wide: false,
-            text: false,
-            uniform: false,
-        };
-        match meet_of(payload, Form::Top, modes, faults) {
+        match meet_of(payload, Form::Top, modes, no_faults()) {
             Met::Stop(stop) => Top::Fault(stop),
             Met::Leaf {
                 kind,
@@ -253,16 +245,9 @@ pub struct Modes {
     pub format: bool,
 }
 
-// The faults that do not stop, each met or not: two equal names, an empty name, a VarUInt that is not minimal, a 09 that is too low, a
-// Float64 that Float32 holds, bytes that are no UTF-8, a container that has to be uniform.
+// The faults that do not stop, of those met so far: the sum of their values, each once. (A number of 64 bits is copied as it was stored.)
 pub struct Faults {
-    pub twin: bool,
-    pub blank: bool,
-    pub long: bool,
-    pub low: bool,
-    pub wide: bool,
-    pub text: bool,
-    pub uniform: bool,
+    pub sum: u64,
 }
 
 // What stands before a payload: the kind, the start of the name, and its end, where the payload starts.
@@ -480,6 +465,20 @@ fn class_of(kind: Kind) -> Class
     }
 }
 
+// How many bytes a payload has by its kind, whatever they are; 0 for the other kinds, and for 01, 0C and 0D.
+pub fn fixed_size(kind: Kind) -> usize
+    ensures { λ r. ⌜ r ≡ fixedSize kind ⌝ }
+{
+    match class_of(kind) {
+        Class::Fixed(size) => size,
+        Class::Text => 0,
+        Class::Positive => 0,
+        Class::Negative => 0,
+        Class::Wide => 0,
+        Class::Behind(inner) => 0,
+    }
+}
+
 // Whether a kind is 01, 0C or 0D.
 pub fn is_bare(kind: Kind) -> bool
     ensures { λ r. ⌜ r ≡ isBare kind ⌝ }
@@ -488,79 +487,110 @@ pub fn is_bare(kind: Kind) -> bool
     (n == 0x01) | (n == 0x0c) | (n == 0x0d)
 }
 
+// No fault was met so far.
+pub fn no_faults() -> Faults
+    ensures { λ r. ⌜ r ≡ nothing ⌝ }
+{
+    Faults { sum: 0 }
+}
+
+// A fault with this value, if it was met.
+fn note(faults: Faults, met: bool, value: u64) -> Faults
+    ensures { λ r. ⌜ r ≡ marked faults met value ⌝ }
+{
+    if met {
+        return Faults {
+            sum: faults.sum | value,
+        };
+    }
+    faults
+}
+
 // A VarUInt was read.
 fn with_long(modes: Modes, faults: Faults, minimal: bool) -> Faults
     ensures { λ r. ⌜ r ≡ noted modes faults (flawIf (not minimal) long) ⌝ }
 {
-    Faults {
-        twin: faults.twin,
-        blank: faults.blank,
-        long: faults.long | (modes.format & !minimal),
-        low: faults.low,
-        wide: faults.wide,
-        text: faults.text,
-        uniform: faults.uniform,
-    }
+    note(faults, modes.format & !minimal, 64)
 }
 
 // A 09 was read.
 fn with_low(modes: Modes, faults: Faults, under: bool) -> Faults
     ensures { λ r. ⌜ r ≡ noted modes faults (flawIf under low) ⌝ }
 {
-    Faults {
-        twin: faults.twin,
-        blank: faults.blank,
-        long: faults.long,
-        low: faults.low | (modes.format & under),
-        wide: faults.wide,
-        text: faults.text,
-        uniform: faults.uniform,
-    }
+    note(faults, modes.format & under, 128)
 }
 
 // A Float64 was read.
 fn with_wide(modes: Modes, faults: Faults, held: bool) -> Faults
     ensures { λ r. ⌜ r ≡ noted modes faults (flawIf held wide) ⌝ }
 {
-    Faults {
-        twin: faults.twin,
-        blank: faults.blank,
-        long: faults.long,
-        low: faults.low,
-        wide: faults.wide | (modes.format & held),
-        text: faults.text,
-        uniform: faults.uniform,
-    }
+    note(faults, modes.format & held, 256)
 }
 
 // Text was read.
 fn with_text(modes: Modes, faults: Faults, good: bool) -> Faults
     ensures { λ r. ⌜ r ≡ noted modes faults (flawIf (not good) notText) ⌝ }
 {
-    Faults {
-        twin: faults.twin,
-        blank: faults.blank,
-        long: faults.long,
-        low: faults.low,
-        wide: faults.wide,
-        text: faults.text | (modes.format & !good),
-        uniform: faults.uniform,
-    }
+    note(faults, modes.format & !good, 512)
 }
 
 // A name was read.
 fn with_blank(modes: Modes, faults: Faults, empty: bool) -> Faults
     ensures { λ r. ⌜ r ≡ noted modes faults (flawIf empty blank) ⌝ }
 {
-    Faults {
-        twin: faults.twin,
-        blank: faults.blank | (modes.names & empty),
-        long: faults.long,
-        low: faults.low,
-        wide: faults.wide,
-        text: faults.text,
-        uniform: faults.uniform,
-    }
+    note(faults, modes.names & empty, 32)
+}
+
+// A container was read that has to be uniform.
+pub fn with_uniform(modes: Modes, faults: Faults, uniform: bool) -> Faults
+    ensures { λ r. ⌜ r ≡ noted modes faults (flawIf uniform notUniform) ⌝ }
+{
+    note(faults, modes.format & uniform, 1024)
+}
+
+// An object was read.
+pub fn with_twin(modes: Modes, faults: Faults, twins: bool) -> Faults
+    ensures { λ r. ⌜ r ≡ noted modes faults (flawIf twins twin) ⌝ }
+{
+    note(faults, modes.names & twins, 16)
+}
+
+// The faults met, each asked for by itself.
+pub fn is_blank(faults: Faults) -> bool
+    ensures { λ r. ⌜ r ≡ isNoted blank faults ⌝ }
+{
+    faults.sum / 32 % 2 == 1
+}
+
+pub fn is_long(faults: Faults) -> bool
+    ensures { λ r. ⌜ r ≡ isNoted long faults ⌝ }
+{
+    faults.sum / 64 % 2 == 1
+}
+
+pub fn is_low(faults: Faults) -> bool
+    ensures { λ r. ⌜ r ≡ isNoted low faults ⌝ }
+{
+    faults.sum / 128 % 2 == 1
+}
+
+pub fn is_wide(faults: Faults) -> bool
+    ensures { λ r. ⌜ r ≡ isNoted wide faults ⌝ }
+{
+    faults.sum / 256 % 2 == 1
+}
+
+pub fn is_not_text(faults: Faults) -> bool
+    ensures { λ r. ⌜ r ≡ isNoted notText faults ⌝ }
+{
+    faults.sum / 512 % 2 == 1
+}
+
+// The sum of the values of the faults met.
+pub fn sum_of(faults: Faults) -> u64
+    ensures { λ r. ⌜ r ≡ sumIn faults ⌝ }
+{
+    faults.sum
 }
 
 // The type byte.
@@ -682,6 +712,13 @@ pub fn front_of(part: &[u8], form: Form, modes: Modes, faults: Faults) -> Front
             faults: faults,
         },
     }
+}
+
+// A name, at the front of a part, before a payload of this kind.
+pub fn name_of(part: &[u8], kind: Kind, modes: Modes, faults: Faults) -> Front
+    ensures { λ r. ⌜ r ≡ frontAt (SharedField kind) modes faults (now (part .entry)) ⌝ }
+{
+    named(part, 0, kind, modes, faults)
 }
 
 // Leaves: only where they end is answered.
@@ -919,8 +956,8 @@ fn behind(part: &[u8], inner: Inner, modes: Modes, faults: Faults) -> Heading
     }
 }
 
-// A payload up to its contents, at the front of a part, beside the faults met before.
-pub fn head_of(part: &[u8], kind: Kind, modes: Modes, faults: Faults) -> Heading
+// A payload up to its contents. Only `meet_of` calls this, so that the compiler makes one piece of the two.
+fn header_of(part: &[u8], kind: Kind, modes: Modes, faults: Faults) -> Heading
     ensures { λ r. ⌜ r ≡ headAt kind modes faults (now (part .entry)) ⌝ }
 {
     match class_of(kind) {
@@ -933,18 +970,19 @@ pub fn head_of(part: &[u8], kind: Kind, modes: Modes, faults: Faults) -> Heading
     }
 }
 
-// A field up to its contents, at the front of a part, beside the faults met before.
+// A field up to its contents, at the front of a part, beside the faults met before. (The whole part, taken anew, is handed on by its address
+// and length, and not by where these are stored.)
 pub fn meet_of(part: &[u8], form: Form, modes: Modes, faults: Faults) -> Met
     ensures { λ r. ⌜ r ≡ meetAt form modes faults (now (part .entry)) ⌝ }
 {
-    match front_of(part, form, modes, faults) {
+    match front_of(&part[0..], form, modes, faults) {
         Front::Stop(stop) => Met::Stop(stop),
         Front::Read {
             kind,
             name,
             start,
             faults: before,
-        } => match head_of(&part[start..], kind, modes, before) {
+        } => match header_of(&part[start..], kind, modes, before) {
             Heading::Stop(stop) => Met::Stop(stop),
             Heading::Leaf { end, faults: met } => Met::Leaf {
                 kind: kind,
@@ -983,6 +1021,55 @@ pub fn meet_of(part: &[u8], form: Form, modes: Modes, faults: Faults) -> Met
                 end: start + end,
                 faults: met,
             },
+        },
+    }
+}
+
+// A payload up to its contents, at the front of a part, beside the faults met before: an item of its kind is met.
+pub fn head_of(part: &[u8], kind: Kind, modes: Modes, faults: Faults) -> Heading
+    ensures { λ r. ⌜ r ≡ headAt kind modes faults (now (part .entry)) ⌝ }
+{
+    match meet_of(part, Form::SharedItem(kind), modes, faults) {
+        Met::Stop(stop) => Heading::Stop(stop),
+        Met::Leaf {
+            kind: _,
+            name: _,
+            start: _,
+            end,
+            faults: met,
+        } => Heading::Leaf {
+            end: end,
+            faults: met,
+        },
+        Met::Fields {
+            kind: _,
+            name: _,
+            start: _,
+            form,
+            begin,
+            end,
+            faults: met,
+        } => Heading::Fields {
+            form: form,
+            begin: begin,
+            end: end,
+            faults: met,
+        },
+        Met::Items {
+            kind: _,
+            name: _,
+            start: _,
+            form,
+            count,
+            begin,
+            end,
+            faults: met,
+        } => Heading::Items {
+            form: form,
+            count: count,
+            begin: begin,
+            end: end,
+            faults: met,
         },
     }
 }

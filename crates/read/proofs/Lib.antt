@@ -5,3 +5,4 @@ pub mod ViewLaws
 pub mod ValueLaws
 pub mod LookLaws
 pub mod OneAnswer
+pub mod AnyStep

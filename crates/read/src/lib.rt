@@ -2,7 +2,6 @@
 use format::After;
 use format::Checked;
 use format::Double;
-use format::Faults;
 use format::Form;
 use format::Found;
 use format::Heading;
@@ -66,15 +65,7 @@ fn open_in(part: &[u8], kind: Kind, start: usize) -> Opened
         names: false,
         format: false,
     };
-    let faults = Faults {
-        twin: false,
-        blank: false,
-        long: false,
-        low: false,
-        wide: false,
-        text: false,
-        uniform: false,
-    };
+    let faults = format::no_faults();
     let length = part.len();
     match format::head_of(part, kind, modes, faults) {
         Heading::Stop(stop) => Opened::Stop(stop),
@@ -144,7 +135,7 @@ fn open_place(payload: &[u8], place: Place) -> Opened
     }
 }
 
-// The check of a place, as a call of its own: what a refused view's caller asks for apart.
+// The check of a place, as a call of its own: it says why a view of a place is refused.
 pub fn checked(payload: &[u8], place: Place) -> Checked
     ensures { λ r. ⌜ r ≡ checked (now (payload .entry)) place ⌝ }
 {
@@ -214,15 +205,7 @@ fn field_at(part: &[u8], form: Form, at: usize, depth: u32) -> Field
         names: false,
         format: false,
     };
-    let faults = Faults {
-        twin: false,
-        blank: false,
-        long: false,
-        low: false,
-        wide: false,
-        text: false,
-        uniform: false,
-    };
+    let faults = format::no_faults();
     match field_of(format::meet_of(part, form, modes, faults), depth) {
         Field::Stop(stop) => Field::Stop(stop),
         Field::Is(place, name) => Field::Is(
@@ -288,7 +271,7 @@ pub fn step(payload: &[u8], container: Place, last: After) -> Step
     }
 }
 
-// The name that a step meets.
+// The name that a step meets; what the step answers says why there is none.
 pub fn name_view<'a>(payload: &'a [u8], container: Place, last: After) -> &'a [u8]
     ensures { λ r. ⌜ now r ≡ nameView (now (payload .entry)) container last ⌝ }
 {
@@ -397,7 +380,7 @@ fn look<'a>(payload: &'a [u8], object: Place, form: Form, begin: usize, name: &'
     Found::NotThere
 }
 
-// The first field of an object that has a name.
+// The first field of an object whose name is byte-equal to this one.
 pub fn lookup<'a>(payload: &'a [u8], object: Place, name: &'a [u8]) -> Found
     ensures { λ r. ⌜ r ≡ lookup (now (payload .entry)) object (now (name .entry)) ⌝ }
 {

@@ -22,6 +22,7 @@ use Rattle.format.specs.Pieces.{between}
 use Rattle.format.proofs.Local.{bind-got}
 use Rattle.format.proofs.HeadParts.{front-takes, head-body, Body}
 use Rattle.format.proofs.HeadLaws.{answer-make}
+use Rattle.format.proofs.MeetCases.{rest-all}
 use Rattle.format.proofs.FaultLaws.{noted-none, answer-flaws}
 use Rattle.validate.specs.declared.Field.{Field}
 use Rattle.validate.specs.declared.Field.the-variants as F
@@ -117,7 +118,10 @@ ends (M.Items k a b o w c e h) = e
 
 -- ---- the returns
 
-module _ (f : Form) (m : Modes) (g : Faults) (s : List ℕ) (x : Met) (e : x ≡ meetAt f m g s) where
+module _ (f : Form) (m : Modes) (g : Faults) (s : List ℕ) (x : Met) (anew : x ≡ meetAt f m g (between 0 (length s) s)) where
+  e : x ≡ meetAt f m g s
+  e = rw (rest-all 0 s) at anew
+
   module _ (l d : ℕ) (z : l ≡ suc d) where
     -- by what was met
     by : (u : Met) (a : Field) → x ≡ u

@@ -2,5 +2,6 @@ pub mod RunLaws
 pub mod NameLaws
 pub mod FieldCases
 pub mod LoopLaws
+pub mod SizedItems
 pub mod MaskCases
 pub mod OneAnswer

@@ -14,12 +14,13 @@ use Rattle.format.specs.declared.Form.the-variants.{Top}
 use Rattle.format.specs.declared.Faults.{Faults}
 use Rattle.format.specs.Limits.{depthLimit, lengthLimit}
 use Rattle.format.specs.Parse.{Flaw, Out, fault, got}
-use Rattle.format.specs.Mask.{flaws, isAsked, namesMode, formatMode, sumOf, paddingMode, paddingOf, stopValue, maskOf, mask}
+use Rattle.format.specs.Mask.{flaws, has, isAsked, namesMode, formatMode, sumOf, paddingMode, paddingOf, stopValue, maskOf, mask}
 use Rattle.format.specs.Reader.{Named, Standing, Layout, read}
-use Rattle.format.specs.Code.{noted, answerOf}
+use Rattle.format.specs.Code.{nothing, asks, noted, sumIn, answerOf}
+use Rattle.format.proofs.FaultSums.{noted-sum, sum-fits}
 use Rattle.validate.specs.declared.Field.{Field}
 use Rattle.validate.specs.declared.Field.the-variants as F
-use Rattle.validate.specs.Checks.{fieldAt, asked, nothing, sumIn}
+use Rattle.validate.specs.Checks.{fieldAt, asked}
 use Rattle.validate.proofs.NameLaws.{read-ends}
 
 pub mask-long : (n : ℕ) (s : List ℕ) → lengthLimit < length s → (v : ℕ) → v ≡ stopValue TooLong → v ≡ mask n s
@@ -28,8 +29,7 @@ mask-long n s i v e = rw (e, lt-ltb lengthLimit (length s) i)
 
 -- the faults kept are those that count
 sum-noted : (n : ℕ) (fs : List Flaw) → sumIn (noted (asked n) nothing fs) ≡ sumOf n fs flaws
-unfolding noted
-sum-noted n fs = refl
+sum-noted n fs = noted-sum (asked n) fs
 
 padding : (n : ℕ) (s w r : List ℕ) → s ≡ w ++ r → cond (isAsked n paddingMode && ltb (length s - length r) (length s)) 4096 0 ≡ paddingOf n r
 padding n s w [] e = rw (le-ltb (length s - 0) (length s) (omega arith)) (at (isAsked n paddingMode))
@@ -45,14 +45,14 @@ padding n s w (b ∷ r) e =
     at true = refl
     at false = refl
 
-module _ (n : ℕ) (s : List ℕ) (short : length s ≤ lengthLimit) (b₁ b₂ : Bool) (i₁ : b₁ ≡ isAsked n namesMode) (i₂ : b₂ ≡ isAsked n formatMode) (x : Field)
-    (e : x ≡ fieldAt Top (record { names = b₁; format = b₂ }) depthLimit nothing s) where
+module _ (n : ℕ) (s : List ℕ) (short : length s ≤ lengthLimit) (b₁ b₂ : Bool) (i₁ : b₁ ≡ isAsked n namesMode) (i₂ : b₂ ≡ isAsked n formatMode) (g : Faults) (i₀ : g ≡ nothing)
+    (x : Field) (e : x ≡ fieldAt Top (record { names = b₁; format = b₂ }) depthLimit g s) where
   within : mask n s ≡ maskOf n (read depthLimit Top s)
   unfolding mask
   within = rw (le-ltb lengthLimit (length s) short)
 
   field : x ≡ fieldAt Top (asked n) depthLimit nothing s
-  field = rw (i₁, i₂) at e
+  field = rw (i₁, i₂, i₀) at e
 
   pub mask-stop : (j : Stop) → x ≡ F.Stop j → (v : ℕ) → v ≡ stopValue j → v ≡ mask n s
   unfolding fieldAt
@@ -61,6 +61,15 @@ module _ (n : ℕ) (s : List ℕ) (short : length s ≤ lengthLimit) (b₁ b₂ 
       at : (o : Out (Named (Standing (Layout depthLimit)))) → F.Stop j ≡ answerOf F.Stop (λ x h r. F.Read (x .1 .0) (length s - length r) h) (asked n) nothing o → maskOf n o ≡ stopValue j
       at (fault l) z = let y : j ≡ l = cc in rw y
       at (got y fs r) z = absurd (let p : _≡_ {A = ℕ} 0 1 = cc in omega arith)
+
+  -- the sum has its place in 32 bits, with 4096 beside it
+  pub mask-fits : (k : Kind) (a : ℕ) (h : Faults) → x ≡ F.Read k a h → (u : ℕ) → u ≡ sumIn h → u ≤ 2032
+  unfolding fieldAt
+  mask-fits k a h i u j = rw j (at (read depthLimit Top s) (sym i ∙ field))
+    where
+      at : (o : Out (Named (Standing (Layout depthLimit)))) → F.Read k a h ≡ answerOf F.Stop (λ x h r. F.Read (x .1 .0) (length s - length r) h) (asked n) nothing o → sumIn h ≤ 2032
+      at (fault l) z = absurd (let p : _≡_ {A = ℕ} 0 1 = cc in omega arith)
+      at (got y fs r) z = let w : h ≡ noted (asked n) nothing fs = cc in rw (w, noted-sum (asked n) fs) (sum-fits (λ f. asks (asked n) f && has f fs))
 
   pub mask-read : (k : Kind) (a : ℕ) (h : Faults) → x ≡ F.Read k a h → (b₃ : Bool) → b₃ ≡ isAsked n paddingMode → (u v : ℕ) → u ≡ sumIn h → v ≡ cond (b₃ && ltb a (length s)) 4096 0
       → u + v ≡ mask n s

@@ -13,7 +13,7 @@ use Rattle.format.specs.Kinds.{id, same, all, isBare, isUniform, isUniformArray
 use Rattle.format.specs.Parse.{twin, notUniform}
 use Rattle.format.specs.Reader.{isTyped}
 use Rattle.format.specs.Code.{noted, flawIf}
-use Rattle.format.proofs.FaultLaws.{unasked-twin}
+use Rattle.format.proofs.FaultLaws.{unasked}
 use Rattle.validate.specs.declared.Run.{Run}
 use Rattle.validate.specs.declared.Run.the-variants as R
 use Rattle.validate.specs.declared.Contents.{Contents}
@@ -121,7 +121,7 @@ module _ (f : Form) (m : Modes) (h : Faults) (u : Run) where
 
     pub object-unasked : (s : List ℕ) → m .names ≡ false → v ≡ objectEnd f m h u s
     unfolding objectEnd
-    object-unasked s e = sym (ap (λ x. noted m x (flawIf (twinsAt f s) twin)) (sym uniform) ∙ unasked-twin m v (twinsAt f s) e)
+    object-unasked s e = sym (ap (λ x. noted m x (flawIf (twinsAt f s) twin)) (sym uniform) ∙ unasked m v (twinsAt f s) twin e)
 
   pub array-ended : (r : Faults) (a b : Bool) → a ≡ isTyped f → b ≡ alikeFull u → r ≡ noted m h (flawIf (a && b) notUniform) → r ≡ arrayEnd f m h u
   unfolding arrayEnd

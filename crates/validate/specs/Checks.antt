@@ -1,11 +1,14 @@
 -- What the code answers of a field, and of the contents of a container, with the depth that is left. Of a field: its kind and its end in
 -- the part that was lent; of contents: that they fill their part.
-use Prim.Native.Nat.{ℕ, _+_, _-_}
+use Prim.Native.Nat.{ℕ, _-_, _/_, _%_}
 use mathlib.Core.Bool.{Bool, true, false, not, _&&_, cond}
 use mathlib.Core.List.{List, [], _∷_}
 use lib.ListN.{length}
+use lib.Dec.{eqb, ltb}
 use Rattle.format.specs.declared.Kind.{Kind}
 use Rattle.format.specs.declared.Form.{Form}
+use Rattle.format.specs.declared.Form.the-variants as G
+use Rattle.format.specs.declared.Stop.the-variants.{Early, TooDeep}
 use Rattle.format.specs.declared.Modes.{Modes}
 use Rattle.format.specs.declared.Faults.{Faults}
 use Rattle.format.specs.Kinds.{same, all, isBare}
@@ -13,6 +16,7 @@ use Rattle.format.specs.Parse.{twin, notUniform, whole}
 use Rattle.format.specs.Payload.{Head}
 use Rattle.format.specs.Mask.{isAsked, namesMode, formatMode}
 use Rattle.format.specs.Reader.{read, contents, isTyped}
+use Rattle.format.specs.Pieces.{fixedSize}
 use Rattle.format.specs.Code.{noted, flawIf, answerOf}
 use Rattle.validate.specs.declared.Field.{Field}
 use Rattle.validate.specs.declared.Field.the-variants as F
@@ -62,14 +66,20 @@ objectEnd f m h u s = noted m (noted m h (flawIf (isTyped f && alike u) notUnifo
 unfoldable pub arrayEnd : Form → Modes → Faults → Run → Faults
 arrayEnd f m h u = noted m h (flawIf (isTyped f && alikeFull u) notUniform)
 
--- ---- the mask, of the faults met
+-- ---- items of which the kind tells the size
+
+abbrev pub itemSize : Form → ℕ
+itemSize G.Top = 0
+itemSize G.Field = 0
+itemSize G.Item = 0
+itemSize (G.SharedField k) = 0
+itemSize (G.SharedItem k) = fixedSize k
+
+-- n of them, of z bytes each, in l bytes
+abbrev pub sizedItems : ℕ → ℕ → ℕ → Faults → ℕ → Contents
+sizedItems n z d g l = cond (eqb d 0 && ltb 0 n) (C.Stop TooDeep) (cond (eqb (l % z) 0 && eqb (l / z) n) (C.Read g) (C.Stop Early))
+
+-- ---- what is asked
 
 abbrev pub asked : ℕ → Modes
 asked n = record { names = isAsked n namesMode; format = isAsked n formatMode }
-
-abbrev pub nothing : Faults
-nothing = record { twin = false; blank = false; long = false; low = false; wide = false; text = false; uniform = false }
-
-abbrev pub sumIn : Faults → ℕ
-sumIn g =
-    cond (g .twin) 16 0 + (cond (g .blank) 32 0 + (cond (g .long) 64 0 + (cond (g .low) 128 0 + (cond (g .wide) 256 0 + (cond (g .text) 512 0 + (cond (g .uniform) 1024 0 + 0))))))

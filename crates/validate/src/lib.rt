@@ -11,11 +11,9 @@ ghost use Prim.Native.Nat.{_≤_, _<_};
 ghost use mathlib.Core.Bool.{cond, not, _&&_};
 ghost use Rattle.format.specs.Kinds.{same};
 ghost use Rattle.format.specs.Mask.{stopValue, isAsked, mask};
-ghost use Rattle.format.specs.Parse.{twin, notUniform};
 ghost use Rattle.format.specs.Payload.{fieldsIn, itemsIn};
 ghost use Rattle.format.specs.Reader.{isTyped};
-ghost use Rattle.format.specs.Code.{noted, flawIf};
-ghost use Rattle.validate.specs.Checks.{fieldAt, contentsAt, closed, adding, alike, alikeFull, objectEnd, arrayEnd, sumIn};
+ghost use Rattle.validate.specs.Checks.{fieldAt, contentsAt, closed, adding, alike, alikeFull, objectEnd, arrayEnd, itemSize, sizedItems};
 
 mod names;
 
@@ -97,36 +95,6 @@ fn is_typed(form: Form) -> bool
     }
 }
 
-// A container was read that has to be uniform.
-fn with_uniform(modes: Modes, faults: Faults, uniform: bool) -> Faults
-    ensures { λ r. ⌜ r ≡ noted modes faults (flawIf uniform notUniform) ⌝ }
-{
-    Faults {
-        twin: faults.twin,
-        blank: faults.blank,
-        long: faults.long,
-        low: faults.low,
-        wide: faults.wide,
-        text: faults.text,
-        uniform: faults.uniform | (modes.format & uniform),
-    }
-}
-
-// An object was read.
-fn with_twin(modes: Modes, faults: Faults, twins: bool) -> Faults
-    ensures { λ r. ⌜ r ≡ noted modes faults (flawIf twins twin) ⌝ }
-{
-    Faults {
-        twin: faults.twin | (modes.names & twins),
-        blank: faults.blank,
-        long: faults.long,
-        low: faults.low,
-        wide: faults.wide,
-        text: faults.text,
-        uniform: faults.uniform,
-    }
-}
-
 fn close(contents: Contents, kind: Kind, end: usize) -> Field
     ensures { λ r. ⌜ r ≡ closed kind end contents ⌝ }
 {
@@ -144,9 +112,9 @@ fn close(contents: Contents, kind: Kind, end: usize) -> Field
 fn end_object(part: &[u8], form: Form, modes: Modes, faults: Faults, run: Run) -> Faults
     ensures { λ r. ⌜ r ≡ objectEnd form modes faults run (now (part .entry)) ⌝ }
 {
-    let met = with_uniform(modes, faults, is_typed(form) & is_alike(run));
+    let met = format::with_uniform(modes, faults, is_typed(form) & is_alike(run));
     if modes.names {
-        with_twin(modes, met, names::twins(part, form))
+        format::with_twin(modes, met, names::twins(part, form))
     } else {
         met
     }
@@ -155,17 +123,44 @@ fn end_object(part: &[u8], form: Form, modes: Modes, faults: Faults, run: Run) -
 fn end_array(form: Form, modes: Modes, faults: Faults, run: Run) -> Faults
     ensures { λ r. ⌜ r ≡ arrayEnd form modes faults run ⌝ }
 {
-    with_uniform(modes, faults, is_typed(form) & is_alike_full(run))
+    format::with_uniform(modes, faults, is_typed(form) & is_alike_full(run))
 }
 
-// A field at the front of a part.
+// The size that every item has by its kind; 0 where the kind does not tell.
+fn item_size(form: Form) -> usize
+    ensures { λ r. ⌜ r ≡ itemSize form ⌝ }
+{
+    match form {
+        Form::Top => 0,
+        Form::Field => 0,
+        Form::Item => 0,
+        Form::SharedField(kind) => 0,
+        Form::SharedItem(kind) => format::fixed_size(kind),
+    }
+}
+
+// Items of one size in a part of this length: they need not be looked at.
+fn check_sizes(length: usize, count: u64, size: usize, left: usize, faults: Faults) -> Contents
+    requires { ⌜ 0 < size ⌝ }
+    ensures { λ r. ⌜ r ≡ sizedItems count size left faults length ⌝ }
+{
+    if (left == 0) & (0 < count) {
+        return Contents::Stop(Stop::TooDeep);
+    }
+    if (length % size == 0) & ((length / size) as u64 == count) {
+        return Contents::Read(faults);
+    }
+    Contents::Stop(Stop::Early)
+}
+
+// A field at the front of a part. (The part is taken anew as in `format::meet_of`.)
 fn check_field(part: &[u8], form: Form, modes: Modes, left: usize, faults: Faults) -> Field
     ensures { λ r. ⌜ r ≡ fieldAt form modes left faults (now (part .entry)) ⌝ }
 {
     if left == 0 {
         return Field::Stop(Stop::TooDeep);
     }
-    match format::meet_of(part, form, modes, faults) {
+    match format::meet_of(&part[0..], form, modes, faults) {
         Met::Stop(stop) => Field::Stop(stop),
         Met::Leaf {
             kind,
@@ -250,6 +245,10 @@ fn check_array(
 ) -> Contents
     ensures { λ r. ⌜ r ≡ contentsAt (itemsIn form count (now (part .entry))) modes left faults ⌝ }
 {
+    let size = item_size(form);
+    if 0 < size {
+        return check_sizes(part.len(), count, size, left, faults);
+    }
     let mut at = 0;
     let mut room = count;
     let mut met = faults;
@@ -295,17 +294,6 @@ fn value_if(met: bool, value: u32) -> u32
     if met { value } else { 0 }
 }
 
-fn sum_of(faults: Faults) -> u32
-    ensures { λ r. ⌜ (r ≡ sumIn faults) × (r ≤ 2032) ⌝ }
-{
-    value_if(faults.twin, 16)
-        + (value_if(faults.blank, 32)
-            + (value_if(faults.long, 64)
-                + (value_if(faults.low, 128)
-                    + (value_if(faults.wide, 256)
-                        + (value_if(faults.text, 512) + value_if(faults.uniform, 1024))))))
-}
-
 fn is_asked(modes: u32, bit: u32) -> bool
     requires { ⌜ 0 < bit ⌝ }
     ensures { λ r. ⌜ r ≡ isAsked modes bit ⌝ }
@@ -324,19 +312,12 @@ pub fn validate(modes: u32, payload: &[u8]) -> u32
         names: is_asked(modes, 1),
         format: is_asked(modes, 2),
     };
-    let nothing = Faults {
-        twin: false,
-        blank: false,
-        long: false,
-        low: false,
-        wide: false,
-        text: false,
-        uniform: false,
-    };
+    let nothing = format::no_faults();
     match check_field(payload, Form::Top, asked, Place::DEPTH as usize, nothing) {
         Field::Stop(stop) => stop_value(stop),
         Field::Read { kind, end, faults } => {
-            sum_of(faults) + value_if(is_asked(modes, 4) & (end < payload.len()), 4096)
+            format::sum_of(faults) as u32
+                + value_if(is_asked(modes, 4) & (end < payload.len()), 4096)
         }
     }
 }

@@ -1,5 +1,4 @@
 // Whether two fields that stand in a part have equal names.
-use format::Faults;
 use format::Form;
 use format::Met;
 use format::Modes;
@@ -78,15 +77,7 @@ fn name_at(part: &[u8], at: usize, form: Form) -> Name
         names: false,
         format: false,
     };
-    let faults = Faults {
-        twin: false,
-        blank: false,
-        long: false,
-        low: false,
-        wide: false,
-        text: false,
-        uniform: false,
-    };
+    let faults = format::no_faults();
     match name_of(format::meet_of(&part[at..], form, modes, faults)) {
         Name::Nothing => Name::Nothing,
         Name::At { begin, end, next } => Name::At {

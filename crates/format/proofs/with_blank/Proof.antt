@@ -1,8 +1,9 @@
+use borrow.Author.Needs.{needs}
 use Rattle.format.proofs.with_blank.Statement.{statement}
 use Rattle.format.proofs.with_blank.Tie as tie
-use Rattle.format.proofs.with_blank.Reads as reads
-use Rattle.format.proofs.with_blank.Lts as lts
-use Rattle.format.proofs.FaultLaws.{mark-blank}
+use mathlib.Core.Path.{_∙_}
+use Rattle.format.specs.Parse.{blank}
+use Rattle.format.proofs.FaultLaws.{noted-one}
 
 pub with-blank-spec : {M : Type 1} → statement M
-with-blank-spec = tie.close (tie.spec (λ c. mark-blank _ _ _))
+with-blank-spec = tie.close (tie.spec (λ c κs. search needs) (λ c. c .note .ensures ∙ noted-one _ _ _ blank))

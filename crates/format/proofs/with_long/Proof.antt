@@ -1,8 +1,9 @@
+use borrow.Author.Needs.{needs}
 use Rattle.format.proofs.with_long.Statement.{statement}
 use Rattle.format.proofs.with_long.Tie as tie
-use Rattle.format.proofs.with_long.Reads as reads
-use Rattle.format.proofs.with_long.Lts as lts
-use Rattle.format.proofs.FaultLaws.{mark-long}
+use mathlib.Core.Path.{_∙_}
+use Rattle.format.specs.Parse.{long}
+use Rattle.format.proofs.FaultLaws.{noted-one}
 
 pub with-long-spec : {M : Type 1} → statement M
-with-long-spec = tie.close (tie.spec (λ c. mark-long _ _ _))
+with-long-spec = tie.close (tie.spec (λ c κs. search needs) (λ c. c .note .ensures ∙ noted-one _ _ _ long))

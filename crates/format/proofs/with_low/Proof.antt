@@ -1,8 +1,9 @@
+use borrow.Author.Needs.{needs}
 use Rattle.format.proofs.with_low.Statement.{statement}
 use Rattle.format.proofs.with_low.Tie as tie
-use Rattle.format.proofs.with_low.Reads as reads
-use Rattle.format.proofs.with_low.Lts as lts
-use Rattle.format.proofs.FaultLaws.{mark-low}
+use mathlib.Core.Path.{_∙_}
+use Rattle.format.specs.Parse.{low}
+use Rattle.format.proofs.FaultLaws.{noted-one}
 
 pub with-low-spec : {M : Type 1} → statement M
-with-low-spec = tie.close (tie.spec (λ c. mark-low _ _ _))
+with-low-spec = tie.close (tie.spec (λ c κs. search needs) (λ c. c .note .ensures ∙ noted-one _ _ _ low))

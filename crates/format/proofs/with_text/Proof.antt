@@ -1,8 +1,9 @@
+use borrow.Author.Needs.{needs}
 use Rattle.format.proofs.with_text.Statement.{statement}
 use Rattle.format.proofs.with_text.Tie as tie
-use Rattle.format.proofs.with_text.Reads as reads
-use Rattle.format.proofs.with_text.Lts as lts
-use Rattle.format.proofs.FaultLaws.{mark-text}
+use mathlib.Core.Path.{_∙_}
+use Rattle.format.specs.Parse.{notText}
+use Rattle.format.proofs.FaultLaws.{noted-one}
 
 pub with-text-spec : {M : Type 1} → statement M
-with-text-spec = tie.close (tie.spec (λ c. mark-text _ _ _))
+with-text-spec = tie.close (tie.spec (λ c κs. search needs) (λ c. c .note .ensures ∙ noted-one _ _ _ notText))

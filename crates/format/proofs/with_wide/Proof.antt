@@ -1,8 +1,9 @@
+use borrow.Author.Needs.{needs}
 use Rattle.format.proofs.with_wide.Statement.{statement}
 use Rattle.format.proofs.with_wide.Tie as tie
-use Rattle.format.proofs.with_wide.Reads as reads
-use Rattle.format.proofs.with_wide.Lts as lts
-use Rattle.format.proofs.FaultLaws.{mark-wide}
+use mathlib.Core.Path.{_∙_}
+use Rattle.format.specs.Parse.{wide}
+use Rattle.format.proofs.FaultLaws.{noted-one}
 
 pub with-wide-spec : {M : Type 1} → statement M
-with-wide-spec = tie.close (tie.spec (λ c. mark-wide _ _ _))
+with-wide-spec = tie.close (tie.spec (λ c κs. search needs) (λ c. c .note .ensures ∙ noted-one _ _ _ wide))

@@ -4,6 +4,7 @@ use Rattle.read.proofs.field_at.Tie as tie
 use Rattle.read.proofs.field_at.Reads as reads
 use Rattle.read.proofs.field_at.Lts as lts
 use Rattle.format.proofs.meet_of.Reads as meet-of-reads
+use Rattle.format.proofs.no_faults.Reads as no-faults-reads
 use Rattle.read.proofs.field_of.Reads as field-of-reads
 use borrow.Author.Needs.{needs}
 use native.Mathlib.Omega.{arith}
@@ -15,10 +16,11 @@ field-at-spec =
     (tie.spec
     (λ c κs. search needs)
     (λ c κs. search needs)
+    (λ c κs. search needs)
     (λ c. search needs)
     (λ c. search needs)
-    (λ c. omega (arith, c .before .before .before .before .before .before .before .pre, field-inside _ 0 _ _ _ _ _ (c .before .before .before .before .before .meet-of .ensures) _ (c .before .before .before .before .field-of .ensures) _ _ (c .before .before .place .given .1)))
-    (λ c. omega (arith, c .before .before .before .before .before .before .before .before .pre, field-inside _ 0 _ _ _ _ _ (c .before .before .before .before .before .before .meet-of .ensures) _ (c .before .before .before .before .before .field-of .ensures) _ _ (c .before .before .before .place .given .1)))
-    (λ c. omega (arith, c .before .before .before .before .before .before .before .before .pre, field-inside _ 0 _ _ _ _ _ (c .before .before .before .before .before .before .meet-of .ensures) _ (c .before .before .before .before .before .field-of .ensures) _ _ (c .before .before .before .place .given .1)))
-    (λ c. field-stop _ (c .before .before .before .before .before .before .args .at) _ _ _ _ _ (c .before .before .before .before .meet-of .ensures) _ (c .before .before .before .field-of .ensures) _ (c .before .stop .given .1))
-    (λ c. field-is _ (c .before .before .before .before .before .before .before .before .args .at) _ _ _ _ _ (c .before .before .before .before .before .before .meet-of .ensures) _ (c .before .before .before .before .before .field-of .ensures) _ _ (c .before .before .before .place .given .1)))
+    (λ c. omega (arith, c .before .before .before .before .before .before .before .before .pre, field-inside _ 0 _ _ _ _ _ (c .before .before .before .before .before .meet-of .ensures) _ (c .before .before .before .before .field-of .ensures) _ _ (c .before .before .place .given .1)))
+    (λ c. omega (arith, c .before .before .before .before .before .before .before .before .before .pre, field-inside _ 0 _ _ _ _ _ (c .before .before .before .before .before .before .meet-of .ensures) _ (c .before .before .before .before .before .field-of .ensures) _ _ (c .before .before .before .place .given .1)))
+    (λ c. omega (arith, c .before .before .before .before .before .before .before .before .before .pre, field-inside _ 0 _ _ _ _ _ (c .before .before .before .before .before .before .meet-of .ensures) _ (c .before .before .before .before .before .field-of .ensures) _ _ (c .before .before .before .place .given .1)))
+    (λ c. field-stop _ (c .before .before .before .before .before .before .before .args .at) _ _ _ _ _ (c .before .before .before .before .meet-of .ensures) _ (c .before .before .before .field-of .ensures) _ (c .before .stop .given .1))
+    (λ c. field-is _ (c .before .before .before .before .before .before .before .before .before .args .at) _ _ _ _ _ (c .before .before .before .before .before .before .meet-of .ensures) _ (c .before .before .before .before .before .field-of .ensures) _ _ (c .before .before .before .place .given .1)))

@@ -11,6 +11,8 @@ use Rattle.validate.proofs.check_object.Reads as check-object
 use Rattle.validate.proofs.check_object.Kinds as check-object-kinds
 use Rattle.validate.proofs.+check_array+check_field+check_object.Lts-check_object as check-object-lts
 use Rattle.format.proofs.meet_of.Reads as meet-of-reads
+use Rattle.validate.proofs.item_size.Reads as item-size-reads
+use Rattle.validate.proofs.check_sizes.Reads as check-sizes-reads
 use Rattle.validate.proofs.add.Reads as add-reads
 use Rattle.validate.proofs.close.Reads as close-reads
 use Rattle.validate.proofs.end_array.Reads as end-array-reads
@@ -19,12 +21,11 @@ use Rattle.validate.proofs.+check_array+check_field+check_object.{state
 use Rattle.validate.proofs.+check_array+check_field+check_object.Tie.{close}
 use native.Mathlib.Omega.{arith}
 use borrow.Author.Needs.{needs}
-use Prim.Native.Nat.{_+_, _-_, _*_, suc}
-use mathlib.Core.Path.{_≡_, sym, refl, ap, _∙_}
-use lib.ListN.{length}
+use Prim.Native.Nat.{_+_, _-_, _*_}
 use denote.Ref.{now}
 use Rattle.validate.proofs.FieldCases.{field-deep, field-stop, field-leaf, field-fields, field-items, fields-in, items-in}
 use Rattle.validate.proofs.LoopLaws.{Fields, fields-start, fields-out, fields-fault, fields-step, fields-end, Items, items-start, items-fault, items-step, items-left, items-end}
+use Rattle.validate.proofs.SizedItems.{sized-items}
 
 ruleset laws = (field-deep, fields-start, fields-out, fields-fault, fields-end, items-start, items-fault, items-left, items-end, needs)
 
@@ -66,10 +67,10 @@ check-object-below t =
     check-object.Pre
 
 abbrev check-array-Inv-loop : check-array-lts.InvT-loop
-check-array-Inv-loop part form count modes left at₀ room₀ met₀ run₀ at room met run = Items form count modes left met₀ part at room met run
+check-array-Inv-loop part form count modes left size at₀ room₀ met₀ run₀ at room met run = Items form count modes left met₀ part at room met run
 
 abbrev check-array-μ-loop : check-array-lts.MeasureT-loop
-check-array-μ-loop part form count modes left at₀ room₀ met₀ run₀ at room met run = room
+check-array-μ-loop part form count modes left size at₀ room₀ met₀ run₀ at room met run = room
 
 abbrev check-object-Inv-loop : check-object-lts.InvT-loop
 check-object-Inv-loop part form modes left at₀ room₀ met₀ run₀ at room met run = Fields form modes left met₀ part at room met run
@@ -80,6 +81,10 @@ check-object-μ-loop part form modes left at₀ room₀ met₀ run₀ at room me
 pub +check-array+check-field+check-object-spec : {M : Type 1} → statement M
 +check-array+check-field+check-object-spec =
     close μ-check-array μ-check-field μ-check-object (λ t. check-array-lts.spec (
+      item-size-reads.Asked,
+      item-size-reads.Learnt,
+      check-sizes-reads.Asked,
+      check-sizes-reads.Learnt,
       check-field-below t,
       check-field.Post,
       add-reads.Asked,
@@ -91,6 +96,9 @@ pub +check-array+check-field+check-object-spec : {M : Type 1} → statement M
     check-array.Post
     check-array-Inv-loop
     check-array-μ-loop
+    (λ c κs. search laws)
+    (λ c κs. search laws)
+    (λ c. let a = c .before .before .before .before .args in sized-items (a .form) (a .count) (a .modes) (a .left) (a .faults) (now (a .part)) _ (c .before .before .item-size .ensures) (omega arith) _ (c .check-sizes .ensures))
     (λ c. search laws)
     (λ c. search laws)
     (λ c. search laws)
@@ -100,13 +108,13 @@ pub +check-array+check-field+check-object-spec : {M : Type 1} → statement M
     (λ c. search laws)
     (λ c. search laws)
     (λ c κs. search laws)
-    (λ c. let a = c .before .before .before .before .before .before .before .before .before .args in let l = c .before .before .before .before .before .before .before .loop in omega (arith, items-step (a .form) (a .count) (a .modes) (a .left) (a .faults) (now (a .part)) (l .at) (l .room) (l .met) (l .run) (l .inv) (omega arith) _ (c .before .before .before .before .check-field .ensures) _ _ _ (c .before .before .kind .given .1) .inside))
+    (λ c. let a = c .before .before .before .before .before .before .before .before .before .before .before .args in let l = c .before .before .before .before .before .before .before .loop in omega (arith, items-step (a .form) (a .count) (a .modes) (a .left) (a .faults) (now (a .part)) (l .at) (l .room) (l .met) (l .run) (l .inv) (omega arith) _ (c .before .before .before .before .check-field .ensures) _ _ _ (c .before .before .kind .given .1) .inside))
     (λ c. search laws)
     (λ c. search laws)
-    (λ c. let a = c .before .before .before .before .before .before .before .before .before .args in let l = c .before .before .before .before .before .before .before .loop in rw (c .add .ensures) (items-step (a .form) (a .count) (a .modes) (a .left) (a .faults) (now (a .part)) (l .at) (l .room) (l .met) (l .run) (l .inv) (omega arith) _ (c .before .before .before .before .check-field .ensures) _ _ _ (c .before .before .kind .given .1)))
-    (λ c. let a = c .before .before .before .before .args in let l = c .before .before .loop in items-left (a .form) (a .count) (a .modes) (a .left) (a .faults) (now (a .part)) (l .at) (l .room) (l .met) (l .run) (l .inv) (omega arith) (omega arith))
+    (λ c. let a = c .before .before .before .before .before .before .before .before .before .before .before .args in let l = c .before .before .before .before .before .before .before .loop in rw (c .add .ensures) (items-step (a .form) (a .count) (a .modes) (a .left) (a .faults) (now (a .part)) (l .at) (l .room) (l .met) (l .run) (l .inv) (omega arith) _ (c .before .before .before .before .check-field .ensures) _ _ _ (c .before .before .kind .given .1)))
+    (λ c. let a = c .before .before .before .before .before .before .args in let l = c .before .before .loop in items-left (a .form) (a .count) (a .modes) (a .left) (a .faults) (now (a .part)) (l .at) (l .room) (l .met) (l .run) (l .inv) (omega arith) (omega arith))
     (λ c κs. search laws)
-    (λ c. let a = c .before .before .before .before .before .args in let l = c .before .before .before .loop in items-end (a .form) (a .count) (a .modes) (a .left) (a .faults) (now (a .part)) (l .at) (l .room) (l .met) (l .run) (l .inv) (omega arith) (omega arith) _ (c .end-array .ensures)))
+    (λ c. let a = c .before .before .before .before .before .before .before .args in let l = c .before .before .before .loop in items-end (a .form) (a .count) (a .modes) (a .left) (a .faults) (now (a .part)) (l .at) (l .room) (l .met) (l .run) (l .inv) (omega arith) (omega arith) _ (c .end-array .ensures)))
     (λ t. check-field-lts.spec (
       meet-of-reads.Asked,
       meet-of-reads.Learnt,
@@ -120,27 +128,30 @@ pub +check-array+check-field+check-object-spec : {M : Type 1} → statement M
     (check-field-at t)
     check-field.Post
     (λ c. search laws)
+    (λ c. search laws)
+    (λ c. search laws)
+    (λ c. search laws)
     (λ c κs. search laws)
     (λ c. search laws)
     (λ c. search laws)
     (λ c. search laws)
-    (λ c. let a = c .before .before .before .before .before .before .args in omega (arith, fields-in (a .form) (a .modes) (a .faults) (now (a .part)) _ (c .before .before .before .meet-of .ensures) _ _ _ _ _ _ _ (c .before .kind2 .given .1)))
-    (λ c. let a = c .before .before .before .before .before .before .args in omega (arith, fields-in (a .form) (a .modes) (a .faults) (now (a .part)) _ (c .before .before .before .meet-of .ensures) _ _ _ _ _ _ _ (c .before .kind2 .given .1)))
-    (λ c. let a = c .before .before .before .before .before .before .args in omega (arith, fields-in (a .form) (a .modes) (a .faults) (now (a .part)) _ (c .before .before .before .meet-of .ensures) _ _ _ _ _ _ _ (c .before .kind2 .given .1)))
+    (λ c. let a = c .before .before .before .before .before .before .before .args in omega (arith, fields-in (a .form) (a .modes) (a .faults) (now (a .part)) _ (c .before .before .before .meet-of .ensures) _ _ _ _ _ _ _ (c .before .kind2 .given .1)))
+    (λ c. let a = c .before .before .before .before .before .before .before .args in omega (arith, fields-in (a .form) (a .modes) (a .faults) (now (a .part)) _ (c .before .before .before .meet-of .ensures) _ _ _ _ _ _ _ (c .before .kind2 .given .1)))
+    (λ c. let a = c .before .before .before .before .before .before .before .args in omega (arith, fields-in (a .form) (a .modes) (a .faults) (now (a .part)) _ (c .before .before .before .meet-of .ensures) _ _ _ _ _ _ _ (c .before .kind2 .given .1)))
     (λ c. search laws)
     (λ c κs. search laws)
     (λ c κs. search laws)
     (λ c. search laws)
-    (λ c. let a = c .before .before .before .before .before .before .args in omega (arith, items-in (a .form) (a .modes) (a .faults) (now (a .part)) _ (c .before .before .before .meet-of .ensures) _ _ _ _ _ _ _ _ (c .before .kind3 .given .1)))
-    (λ c. let a = c .before .before .before .before .before .before .args in omega (arith, items-in (a .form) (a .modes) (a .faults) (now (a .part)) _ (c .before .before .before .meet-of .ensures) _ _ _ _ _ _ _ _ (c .before .kind3 .given .1)))
-    (λ c. let a = c .before .before .before .before .before .before .args in omega (arith, items-in (a .form) (a .modes) (a .faults) (now (a .part)) _ (c .before .before .before .meet-of .ensures) _ _ _ _ _ _ _ _ (c .before .kind3 .given .1)))
+    (λ c. let a = c .before .before .before .before .before .before .before .args in omega (arith, items-in (a .form) (a .modes) (a .faults) (now (a .part)) _ (c .before .before .before .meet-of .ensures) _ _ _ _ _ _ _ _ (c .before .kind3 .given .1)))
+    (λ c. let a = c .before .before .before .before .before .before .before .args in omega (arith, items-in (a .form) (a .modes) (a .faults) (now (a .part)) _ (c .before .before .before .meet-of .ensures) _ _ _ _ _ _ _ _ (c .before .kind3 .given .1)))
+    (λ c. let a = c .before .before .before .before .before .before .before .args in omega (arith, items-in (a .form) (a .modes) (a .faults) (now (a .part)) _ (c .before .before .before .meet-of .ensures) _ _ _ _ _ _ _ _ (c .before .kind3 .given .1)))
     (λ c. search laws)
     (λ c κs. search laws)
     (λ c κs. search laws)
-    (λ c. let a = c .before .before .before .before .before .before .args in field-stop (a .form) (a .modes) (a .faults) (now (a .part)) _ (c .before .before .before .meet-of .ensures) (a .left) (a .left - 1) (omega arith) _ (c .before .stop .given .1))
-    (λ c. let a = c .before .before .before .before .before .before .args in field-leaf (a .form) (a .modes) (a .faults) (now (a .part)) _ (c .before .before .before .meet-of .ensures) (a .left) (a .left - 1) (omega arith) _ _ _ _ _ (c .before .kind .given .1))
-    (λ c. let a = c .before .before .before .before .before .before .before .before .before .args in field-fields (a .form) (a .modes) (a .faults) (now (a .part)) _ (c .before .before .before .before .before .before .meet-of .ensures) (a .left) (a .left - 1) (omega arith) _ _ _ _ _ _ _ (c .before .before .before .before .kind2 .given .1) _ (c .before .check-object .ensures) _ (c .close .ensures))
-    (λ c. let a = c .before .before .before .before .before .before .before .before .before .args in field-items (a .form) (a .modes) (a .faults) (now (a .part)) _ (c .before .before .before .before .before .before .meet-of .ensures) (a .left) (a .left - 1) (omega arith) _ _ _ _ _ _ _ _ (c .before .before .before .before .kind3 .given .1) _ (c .before .check-array .ensures) _ (c .close2 .ensures)))
+    (λ c. let a = c .before .before .before .before .before .before .before .args in field-stop (a .form) (a .modes) (a .faults) (now (a .part)) _ (c .before .before .before .meet-of .ensures) (a .left) (a .left - 1) (omega arith) _ (c .before .stop .given .1))
+    (λ c. let a = c .before .before .before .before .before .before .before .args in field-leaf (a .form) (a .modes) (a .faults) (now (a .part)) _ (c .before .before .before .meet-of .ensures) (a .left) (a .left - 1) (omega arith) _ _ _ _ _ (c .before .kind .given .1))
+    (λ c. let a = c .before .before .before .before .before .before .before .before .before .before .args in field-fields (a .form) (a .modes) (a .faults) (now (a .part)) _ (c .before .before .before .before .before .before .meet-of .ensures) (a .left) (a .left - 1) (omega arith) _ _ _ _ _ _ _ (c .before .before .before .before .kind2 .given .1) _ (c .before .check-object .ensures) _ (c .close .ensures))
+    (λ c. let a = c .before .before .before .before .before .before .before .before .before .before .args in field-items (a .form) (a .modes) (a .faults) (now (a .part)) _ (c .before .before .before .before .before .before .meet-of .ensures) (a .left) (a .left - 1) (omega arith) _ _ _ _ _ _ _ _ (c .before .before .before .before .kind3 .given .1) _ (c .before .check-array .ensures) _ (c .close2 .ensures)))
     λ t. check-object-lts.spec (
       check-field-below t,
       check-field.Post,

@@ -1,14 +1,8 @@
 use borrow.Author.Needs.{needs}
 use Rattle.validate.proofs.validate.Statement.{statement}
 use Rattle.validate.proofs.validate.Tie as tie
-use Rattle.validate.proofs.validate.Reads as reads
-use Rattle.validate.proofs.validate.Lts as lts
-use Rattle.validate.proofs.check_field.Reads as check-field-reads
-use Rattle.validate.proofs.is_asked.Reads as is-asked-reads
-use Rattle.validate.proofs.stop_value.Reads as stop-value-reads
-use Rattle.validate.proofs.sum_of.Reads as sum-of-reads
-use Rattle.validate.proofs.value_if.Reads as value-if-reads
-use Rattle.validate.proofs.MaskCases.{mask-long, mask-stop, mask-read}
+use native.Mathlib.Omega.{arith}
+use Rattle.validate.proofs.MaskCases.{mask-long, mask-stop, mask-fits, mask-read}
 
 ruleset laws = (mask-long, mask-stop, mask-read, needs)
 
@@ -20,14 +14,16 @@ validate-spec =
     (λ c. search laws)
     (λ c κs. search laws)
     (λ c κs. search laws)
-    (λ c. search laws)
     (λ c κs. search laws)
     (λ c. search laws)
     (λ c κs. search laws)
     (λ c. search laws)
     (λ c κs. search laws)
-    (λ c κs. search laws)
-    (λ c κs. search laws)
     (λ c. search laws)
+    (λ c κs. search laws)
+    (λ c. omega (arith, mask-fits (c .before .before .before .before .before .before .before .before .before .before .args .modes) (c .before .before .before .before .before .before .before .before .before .before .args .payload .now) (omega arith) _ _ (c .before .before .before .before .before .before .before .is-asked .ensures) (c .before .before .before .before .before .before .is-asked2 .ensures) _ (c .before .before .before .before .before .no-faults .ensures) _ (c .before .before .before .before .check-field .ensures) _ _ _ (c .before .before .kind .given .1) _ (c .sum-of .ensures)))
+    (λ c κs. search laws)
+    (λ c κs. search laws)
+    (λ c. omega (arith, c .value-if .ensures .1, mask-fits (c .before .before .before .before .before .before .before .before .before .before .before .before .args .modes) (c .before .before .before .before .before .before .before .before .before .before .before .before .args .payload .now) (omega arith) _ _ (c .before .before .before .before .before .before .before .before .before .is-asked .ensures) (c .before .before .before .before .before .before .before .before .is-asked2 .ensures) _ (c .before .before .before .before .before .before .before .no-faults .ensures) _ (c .before .before .before .before .before .before .check-field .ensures) _ _ _ (c .before .before .before .before .kind .given .1) _ (c .before .before .sum-of .ensures)))
     (λ c. search laws)
     (λ c. search laws))

@@ -1,10 +1,6 @@
 use borrow.Author.Needs.{needs}
 use Rattle.format.proofs.Place.top.Statement.{statement}
 use Rattle.format.proofs.Place.top.Tie as tie
-use Rattle.format.proofs.Place.top.Reads as reads
-use Rattle.format.proofs.Place.top.Lts as lts
-use Rattle.format.proofs.meet_of.Reads as meet-of-reads
-use Rattle.format.proofs.top_at.Reads as top-at-reads
 use Rattle.format.proofs.TopCases.{top-long, top-stop, top-leaf, top-fields, top-items}
 
 ruleset laws = (top-long, top-stop, top-leaf, top-fields, top-items, needs)
@@ -14,6 +10,7 @@ top-spec =
     tie.close
     (tie.spec
     (λ c. search laws)
+    (λ c κs. search laws)
     (λ c κs. search laws)
     (λ c. search laws)
     (λ c. search laws)
