@@ -54,6 +54,83 @@ uint64_t ajuqvane_widen(uint32_t bits);
  * With names asked, the time grows with the square of the number of names in one object: seconds for the worst 65536 bytes. */
 uint32_t ajuqvane_validate(uint32_t modes, const uint8_t *payload, size_t length);
 
+/* The reading calls.
+ *
+ * A place says where a field stands: its kind (the ID, without flags), the start and the end of what it holds, counted in
+ * bytes from the front of the payload, and its depth, 1 for the top field. A caller keeps a place as these four numbers. They
+ * may be any numbers at all, from this payload, from another or made up: every call checks its place and says by a fault what
+ * is wrong with it. Nor need the payload have been validated: a call looks at fields only up to their contents, and does not
+ * hold the items of an array to its count.
+ *
+ * Every call answers one of these numbers:
+ *   0 it has an answer, which stands in the first of the lent numbers as the call says; the others are as they were
+ *   1, 2, 4, 8, 2048 a fault, numbered as in a mask: of the place, or met by the step
+ *   3 no more: the contents of the container end here
+ *   5 not there: no field of the object has the name
+ *   6 wrong kind: the place's kind is not one that the call reads
+ *   7 out of range: the integer is not one that the call can answer exactly
+ *   9 fewer numbers are lent than the call may answer, whatever else is wrong
+ * If the answer is not 0, all lent numbers are as they were. count is how many numbers answer points to.
+ *
+ * The check of a place, whose faults come in this order: 8 more than 65536 bytes; 1 start past end, or end past the payload;
+ * 4 depth 0 or past 32; 2 an unknown kind; 1, 2 or 2048 for what stands before the contents, as if the payload stopped at end;
+ * 1 if what the field holds does not end at end. */
+
+/* The check of a place, by itself: 0 or its fault. It is lent no numbers. */
+uint32_t ajuqvane_check(const uint8_t *payload, size_t length, uint8_t kind, size_t start, size_t end, uint32_t depth);
+
+/* The top place, from which all others are reached.
+ * 0: answer[0] to answer[3] are its kind, start, end and depth.
+ * 1, 2, 8, 2048, 9. Asks for 4 numbers. */
+uint32_t ajuqvane_top(const uint8_t *payload, size_t length, uint64_t *answer, size_t count);
+
+/* A step to the next field of an object, or item of an array. some is 0 for the first one, and last is then ignored; otherwise
+ * last is the end of the place that the last step gave.
+ * 0: answer[0] to answer[3] are the field's kind, start, end and depth. Its name stands in the payload from answer[4] to
+ *    answer[1], its start; an item's is empty.
+ * 3 after the last one; 6 on a kind that is no container; 1 also where last is outside the contents; 4 also for a field at
+ * depth 33; 2, 8, 2048, 9. Asks for 5 numbers. */
+uint32_t ajuqvane_step(const uint8_t *payload, size_t length, uint8_t kind, size_t start, size_t end, uint32_t depth,
+                       uint32_t some, size_t last, uint64_t *answer, size_t count);
+
+/* A place's view: what the field holds, after its size if it has one. A string's is its text, an integer's its VarUInt; an
+ * array's begins with its count, a custom's with its id or with its name's length.
+ * 0: the view stands in the payload from answer[0] to answer[1].
+ * 1, 2, 4, 8, 2048, 9. Asks for 2 numbers. */
+uint32_t ajuqvane_view(const uint8_t *payload, size_t length, uint8_t kind, size_t start, size_t end, uint32_t depth,
+                       uint64_t *answer, size_t count);
+
+/* The first field of an object that has this name, byte by byte. Fields before it are stepped over, those after it not looked
+ * at. The name may be a part of the payload, and may be empty.
+ * 0: answer[0] to answer[3] are the field's kind, start, end and depth.
+ * 5 if there is none; 6 on a kind that is no object; a fault also where a step on the way meets one; 9. Asks for 4 numbers. */
+uint32_t ajuqvane_lookup(const uint8_t *payload, size_t length, uint8_t kind, size_t start, size_t end, uint32_t depth,
+                         const uint8_t *name, size_t name_length, uint64_t *answer, size_t count);
+
+/* A number as a double, exact or refused: a Float32 as ajuqvane_widen has it, a Float64 as it is, an integer from -2^53 to 2^53.
+ * 0: answer[0] is the double's 64 bits.
+ * 7 for any other integer; 6 for any other kind; 1, 2, 4, 8, 2048, 9. Asks for 1 number. */
+uint32_t ajuqvane_double(const uint8_t *payload, size_t length, uint8_t kind, size_t start, size_t end, uint32_t depth,
+                         uint64_t *answer, size_t count);
+
+/* An integer as a signed number of 64 bits.
+ * 0: answer[0] is the integer in two's complement.
+ * 7 below -2^63 or from 2^63 up; 6 if it is no integer; 1, 2, 4, 8, 2048, 9. Asks for 1 number. */
+uint32_t ajuqvane_signed(const uint8_t *payload, size_t length, uint8_t kind, size_t start, size_t end, uint32_t depth,
+                         uint64_t *answer, size_t count);
+
+/* An integer as an unsigned number of 64 bits.
+ * 0: answer[0] is the integer.
+ * 7 below 0; 6 if it is no integer; 1, 2, 4, 8, 2048, 9. Asks for 1 number. */
+uint32_t ajuqvane_unsigned(const uint8_t *payload, size_t length, uint8_t kind, size_t start, size_t end, uint32_t depth,
+                           uint64_t *answer, size_t count);
+
+/* The ticks of a DateTime or a TimeSpan.
+ * 0: answer[0] is the ticks in two's complement.
+ * 6 for any other kind; 1, 2, 4, 8, 2048, 9. Asks for 1 number. */
+uint32_t ajuqvane_ticks(const uint8_t *payload, size_t length, uint8_t kind, size_t start, size_t end, uint32_t depth,
+                        uint64_t *answer, size_t count);
+
 #ifdef __cplusplus
 }
 #endif

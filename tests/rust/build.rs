@@ -4,7 +4,23 @@ use std::path::PathBuf;
 use std::process::Command;
 
 /// The calls of the library, without their prefix.
-const CALLS: [&str; 6] = ["validate", "varuint", "is_text", "are_equal", "float32_holds", "widen"];
+const CALLS: [&str; 15] = [
+    "validate",
+    "varuint",
+    "is_text",
+    "are_equal",
+    "float32_holds",
+    "widen",
+    "check",
+    "top",
+    "step",
+    "view",
+    "lookup",
+    "double",
+    "signed",
+    "unsigned",
+    "ticks",
+];
 
 fn main() {
     for call in CALLS {

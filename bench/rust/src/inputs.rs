@@ -114,9 +114,14 @@ pub fn floats(count: usize) -> Vec<u8> {
     encode(&Tree::Array((0..count).map(|_| float32(&mut random)).collect())).bytes
 }
 
+/// The name of 14 bytes that a field of `names` has.
+pub fn measure_name(index: usize) -> Vec<u8> {
+    name(&format!("measuring_{index:04}"))
+}
+
 /// One object of so many names of 14 bytes, 16 bytes a field.
 pub fn names(count: usize) -> Vec<u8> {
-    let fields = (0..count).map(|index| (name(&format!("measuring_{index:04}")), integer(index % 100)));
+    let fields = (0..count).map(|index| (measure_name(index), integer(index % 100)));
     encode(&Tree::Object(fields.collect())).bytes
 }
 

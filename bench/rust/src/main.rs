@@ -6,11 +6,13 @@
 mod harness;
 mod inputs;
 mod plain;
+mod reader;
 mod validator;
 
 use std::process::ExitCode;
 use std::rc::Rc;
 
+use ajuqvane_tests::independent::places::Place;
 use ajuqvane_tests::library;
 use harness::{measure, Measured, Row};
 
@@ -91,6 +93,13 @@ fn rows() -> Vec<Row> {
             }
         }
     }
+    if library::HAS_PLACES {
+        rows.push(walk_row("manifest, 64 KiB", inputs::manifest()));
+        for (text, count) in [("10", 10), ("400", 400), ("4,000", 4_000)] {
+            rows.push(lookup_row(text, count));
+        }
+        rows.push(floats_row());
+    }
     rows
 }
 
@@ -157,5 +166,129 @@ fn yardstick_row(name: &str, payload: Rc<[u8]>) -> Row {
         ours: Box::new(move || library::validate(0, &our_payload).unwrap_or(u32::MAX).into()),
         rust: Box::new(move || plain::sum(&payload)),
         same: false,
+    }
+}
+
+/// What a place and a name say, so that a walk's number depends on every field.
+fn mixed(sum: u64, kind: u64, start: u64, end: u64, depth: u64, name: u64) -> u64 {
+    sum.rotate_left(5) ^ kind ^ start << 8 ^ end << 24 ^ depth << 40 ^ name << 46
+}
+
+/// A place as the library's calls answer it.
+fn place_of(answer: &[u64]) -> Place {
+    Place { kind: answer[0] as u8, start: answer[1], end: answer[2], depth: answer[3] as u32 }
+}
+
+/// Every field of every container, by the library's steps.
+fn our_walk(payload: &[u8], place: Place, mut sum: u64) -> u64 {
+    let mut answer = [0; 5];
+    let (mut some, mut last) = (0, 0);
+    while library::step(payload, place, some, last, &mut answer) == Some(0) {
+        let field = place_of(&answer);
+        sum = mixed(sum, answer[0], answer[1], answer[2], answer[3], answer[4]);
+        if matches!(field.kind, 0x02..=0x05) {
+            sum = our_walk(payload, field, sum);
+        }
+        (some, last) = (1, field.end);
+    }
+    sum
+}
+
+/// The same by the straightforward steps.
+fn rust_walk(payload: &[u8], place: reader::Place, mut sum: u64) -> u64 {
+    let mut last = None;
+    while let Ok((field, name)) = plain::step(payload, place, last) {
+        sum = mixed(sum, field.kind.into(), field.start as u64, field.end as u64, field.depth.into(), name as u64);
+        if matches!(field.kind, 0x02..=0x05) {
+            sum = rust_walk(payload, field, sum);
+        }
+        last = Some(field.end);
+    }
+    sum
+}
+
+fn walk_row(name: &str, payload: Vec<u8>) -> Row {
+    let payload: Rc<[u8]> = payload.into();
+    let our_payload = payload.clone();
+    Row {
+        name: format!("walk by steps: {name}"),
+        ours: Box::new(move || {
+            let mut answer = [0; 4];
+            match library::top(&our_payload, &mut answer) {
+                Some(0) => our_walk(&our_payload, place_of(&answer), 0),
+                _ => u64::MAX,
+            }
+        }),
+        rust: Box::new(move || plain::top(&payload).map_or(u64::MAX - 1, |top| rust_walk(&payload, top, 0))),
+        same: true,
+    }
+}
+
+/// Lookup of the last of so many names.
+fn lookup_row(text: &str, count: usize) -> Row {
+    let payload: Rc<[u8]> = inputs::names(count).into();
+    let name: Rc<[u8]> = inputs::measure_name(count - 1).into();
+    let (our_payload, our_name) = (payload.clone(), name.clone());
+    let mut answer = [0; 4];
+    library::top(&payload, &mut answer);
+    let our_top = place_of(&answer);
+    let top = reader::Place {
+        kind: our_top.kind,
+        start: our_top.start as usize,
+        end: our_top.end as usize,
+        depth: our_top.depth,
+    };
+    Row {
+        name: format!("lookup, the last of {text} names"),
+        ours: Box::new(move || {
+            let mut answer = [0; 4];
+            match library::lookup(&our_payload, our_top, &our_name, &mut answer) {
+                Some(0) => mixed(0, answer[0], answer[1], answer[2], answer[3], 0),
+                _ => u64::MAX,
+            }
+        }),
+        rust: Box::new(move || {
+            plain::lookup(&payload, top, &name).map_or(u64::MAX - 1, |field| {
+                mixed(0, field.kind.into(), field.start as u64, field.end as u64, field.depth.into(), 0)
+            })
+        }),
+        same: true,
+    }
+}
+
+/// Every Float32 of an array, each by a step and read as a double.
+fn floats_row() -> Row {
+    let payload: Rc<[u8]> = inputs::floats(16_000).into();
+    let our_payload = payload.clone();
+    Row {
+        name: "step and double: 16,000 Float32".to_string(),
+        ours: Box::new(move || {
+            let (mut answer, mut bits) = ([0; 5], [0; 1]);
+            if library::top(&our_payload, &mut answer) != Some(0) {
+                return u64::MAX;
+            }
+            let top = place_of(&answer);
+            let (mut sum, mut some, mut last) = (0_u64, 0, 0);
+            while library::step(&our_payload, top, some, last, &mut answer) == Some(0) {
+                let field = place_of(&answer);
+                if library::double(&our_payload, field, &mut bits) == Some(0) {
+                    sum = sum.rotate_left(5) ^ bits[0];
+                }
+                (some, last) = (1, field.end);
+            }
+            sum
+        }),
+        rust: Box::new(move || {
+            let Ok(top) = plain::top(&payload) else { return u64::MAX - 1 };
+            let (mut sum, mut last) = (0_u64, None);
+            while let Ok((field, _)) = plain::step(&payload, top, last) {
+                if let Ok(bits) = plain::double(&payload, field) {
+                    sum = sum.rotate_left(5) ^ bits;
+                }
+                last = Some(field.end);
+            }
+            sum
+        }),
+        same: true,
     }
 }

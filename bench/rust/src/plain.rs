@@ -2,6 +2,7 @@
 
 use ajuqvane_tests::independent::number;
 
+use crate::reader::{self, Place};
 use crate::validator;
 
 /// Value, bytes taken, whether minimal.
@@ -26,6 +27,28 @@ pub fn float32_holds(bits: u64) -> bool {
 #[inline(never)]
 pub fn validate(modes: u32, payload: &[u8]) -> u32 {
     validator::validate(modes, payload)
+}
+
+#[inline(never)]
+pub fn top(payload: &[u8]) -> Result<Place, u32> {
+    reader::top(payload)
+}
+
+/// The next field and where its name begins.
+#[inline(never)]
+pub fn step(payload: &[u8], place: Place, last: Option<usize>) -> Result<(Place, usize), u32> {
+    reader::step(payload, place, last)
+}
+
+#[inline(never)]
+pub fn lookup(payload: &[u8], place: Place, name: &[u8]) -> Result<Place, u32> {
+    reader::lookup(payload, place, name)
+}
+
+/// The bits of a number as a double.
+#[inline(never)]
+pub fn double(payload: &[u8], place: Place) -> Result<u64, u32> {
+    reader::double(payload, place)
 }
 
 #[inline(never)]

@@ -2,10 +2,11 @@
  * clang and lld are enough to build it. It answers blocks of requests on its standard input, each a number of bytes (32 bits,
  * little-endian as all here) and so many bytes of requests, by blocks of answers of the same form.
  *
- * A request is: call (8 bits), 1 if the bytes are to stand against the end of their page and not its start (8 bits), a number
- * (64 bits), a length (32 bits), and so many bytes. An answer is four numbers of 64 bits: what was answered, and the three
- * numbers that a VarUInt is answered by; a call that the library does not have answers ABSENT. The bytes stand between pages
- * that cannot be touched. */
+ * A request is: call (8 bits), 1 if the bytes are to stand against the end of their page and not its start (8 bits), eight
+ * numbers (64 bits each: one whose meaning is the call's; the kind, start, end and depth of a place; whether there is a last
+ * place, and its end; how many numbers are lent, at most 5), a length (32 bits), and so many bytes. An answer is six numbers of
+ * 64 bits: what was answered, and the lent numbers afterwards, which are all 7 before, then 0; a call that the library does not
+ * have answers ABSENT. The bytes and the lent numbers stand between pages that cannot be touched. */
 
 typedef unsigned char u8;
 typedef unsigned int u32;
@@ -18,12 +19,26 @@ CALL u32 ajuqvane_is_text(const u8 *part, u64 length);
 CALL u32 ajuqvane_are_equal(const u8 *a, u64 a_length, const u8 *b, u64 b_length);
 CALL u32 ajuqvane_float32_holds(u64 bits);
 CALL u64 ajuqvane_widen(u32 bits);
+#define PLACE const u8 *payload, u64 length, u8 kind, u64 start, u64 end, u32 depth
+CALL u32 ajuqvane_check(PLACE);
+CALL u32 ajuqvane_top(const u8 *payload, u64 length, u64 *answer, u64 count);
+CALL u32 ajuqvane_step(PLACE, u32 some, u64 last, u64 *answer, u64 count);
+CALL u32 ajuqvane_view(PLACE, u64 *answer, u64 count);
+CALL u32 ajuqvane_lookup(PLACE, const u8 *name, u64 name_length, u64 *answer, u64 count);
+CALL u32 ajuqvane_double(PLACE, u64 *answer, u64 count);
+CALL u32 ajuqvane_signed(PLACE, u64 *answer, u64 count);
+CALL u32 ajuqvane_unsigned(PLACE, u64 *answer, u64 count);
+CALL u32 ajuqvane_ticks(PLACE, u64 *answer, u64 count);
 
 #define ABSENT 0xABABABABABABABABul
 #define PAGE 4096ul
 /* The longest bytes of a request and the longest block. */
-#define ROOM (32 * PAGE)
+#define ROOM (64 * PAGE)
 #define BLOCK (64ul << 20)
+/* The bytes of a request before its own, and of an answer. */
+#define HEAD (2 + 8 * 8 + 4ul)
+#define ANSWER (6 * 8ul)
+#define MOST_LENT 5ul
 
 void *memcpy(void *to, const void *from, u64 count) {
     for (u64 i = 0; i < count; i++) ((u8 *)to)[i] = ((const u8 *)from)[i];
@@ -102,25 +117,26 @@ void answer_all(void) {
         u64 size = read_number(head, 4), at = 0, written = 4;
         if (size > BLOCK) leave(5);
         transfer(0, 0, block, size);
-        while (at + 14 <= size) {
-            u64 call = block[at], at_end = block[at + 1], number = read_number(block + at + 2, 8);
-            u64 length = read_number(block + at + 10, 4);
-            const u8 *bytes = block + at + 14;
-            at += 14 + length;
-            if (at > size || length > ROOM || written + 32 > BLOCK) leave(5);
+        while (at + HEAD <= size) {
+            u64 call = block[at], at_end = block[at + 1], numbers[8];
+            for (u64 i = 0; i < 8; i++) numbers[i] = read_number(block + at + 2 + 8 * i, 8);
+            u64 number = numbers[0], start = numbers[2], end = numbers[3], after = numbers[6], count = numbers[7];
+            u8 kind = (u8)numbers[1];
+            u32 depth = (u32)numbers[4], some = (u32)numbers[5];
+            u64 length = read_number(block + at + HEAD - 4, 4);
+            const u8 *bytes = block + at + HEAD;
+            at += HEAD + length;
+            if (at > size || length > ROOM || written + ANSWER > BLOCK || count > MOST_LENT) leave(5);
             const u8 *part = flush(room, ROOM, bytes, length, at_end);
-            u64 answer[4] = {ABSENT, 0, 0, 0};
+            u64 *lent = (u64 *)(at_end ? last + PAGE - 8 * count : last);
+            for (u64 i = 0; i < count; i++) lent[i] = 7;
+            u64 answer[6] = {ABSENT, 0, 0, 0, 0, 0};
             switch (call) {
             case 0:
                 if (ajuqvane_validate) answer[0] = ajuqvane_validate((u32)number, part, length);
                 break;
             case 1:
-                if (ajuqvane_varuint) {
-                    u64 *three = (u64 *)(at_end ? last + PAGE - 24 : last);
-                    three[0] = three[1] = three[2] = 7;
-                    answer[0] = ajuqvane_varuint(part, length, three, 3);
-                    memcpy(answer + 1, three, 24);
-                }
+                if (ajuqvane_varuint) answer[0] = ajuqvane_varuint(part, length, lent, count);
                 break;
             case 2:
                 if (ajuqvane_is_text) answer[0] = ajuqvane_is_text(part, length);
@@ -139,10 +155,44 @@ void answer_all(void) {
             case 5:
                 if (ajuqvane_widen) answer[0] = ajuqvane_widen((u32)number);
                 break;
+            case 6:
+                if (ajuqvane_check) answer[0] = ajuqvane_check(part, length, kind, start, end, depth);
+                break;
+            case 7:
+                if (ajuqvane_top) answer[0] = ajuqvane_top(part, length, lent, count);
+                break;
+            case 8:
+                if (ajuqvane_step)
+                    answer[0] = ajuqvane_step(part, length, kind, start, end, depth, some, after, lent, count);
+                break;
+            case 9:
+                if (ajuqvane_view) answer[0] = ajuqvane_view(part, length, kind, start, end, depth, lent, count);
+                break;
+            case 10: /* the payload before the number's byte, and the name from it on */
+                if (number > length) leave(5);
+                if (ajuqvane_lookup) {
+                    const u8 *payload = flush(room, ROOM, bytes, number, at_end);
+                    const u8 *name = flush(other, ROOM, bytes + number, length - number, at_end);
+                    answer[0] = ajuqvane_lookup(payload, number, kind, start, end, depth, name, length - number, lent, count);
+                }
+                break;
+            case 11:
+                if (ajuqvane_double) answer[0] = ajuqvane_double(part, length, kind, start, end, depth, lent, count);
+                break;
+            case 12:
+                if (ajuqvane_signed) answer[0] = ajuqvane_signed(part, length, kind, start, end, depth, lent, count);
+                break;
+            case 13:
+                if (ajuqvane_unsigned) answer[0] = ajuqvane_unsigned(part, length, kind, start, end, depth, lent, count);
+                break;
+            case 14:
+                if (ajuqvane_ticks) answer[0] = ajuqvane_ticks(part, length, kind, start, end, depth, lent, count);
+                break;
             default: leave(5);
             }
-            memcpy(answers + written, answer, 32);
-            written += 32;
+            memcpy(answer + 1, lent, 8 * count);
+            memcpy(answers + written, answer, ANSWER);
+            written += ANSWER;
         }
         for (u64 i = 0; i < 4; i++) answers[i] = (u8)((written - 4) >> 8 * i);
         transfer(1, 1, answers, written);

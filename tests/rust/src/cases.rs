@@ -2,9 +2,10 @@
 
 use std::fmt::Write;
 
-use crate::independent::places::{Place, Refused, Step};
+use crate::independent::places::{Place, Refused};
 use crate::independent::write::Refusal;
-use crate::independent::{mask, places, program, values, write};
+use crate::independent::{mask, program, write};
+use crate::reading::Reading;
 
 /// A question, of one of the kinds that a case file may have.
 #[derive(Clone, Debug, PartialEq, Eq)]
@@ -49,30 +50,16 @@ pub struct Independent;
 
 impl Answers for Independent {
     fn answer(&self, question: &Question) -> Option<Answer> {
-        fn value<T: Into<i128>>(answer: Result<T, Refused>) -> Answer {
-            answer.map_or_else(Answer::Refused, |value| Answer::Value(value.into()))
+        if let Some((bytes, reading)) = question.reading() {
+            return Some(reading.by_independent(bytes));
         }
         Some(match question {
             Question::Mask { modes, bytes } => Answer::Mask(mask::mask(*modes, bytes)),
-            Question::Top { bytes } => places::top(bytes).map_or_else(Answer::Refused, Answer::Place),
-            Question::Step { bytes, place, last } => match places::step(bytes, *place, *last) {
-                Ok(Step::Field(place, start, end)) => Answer::Field(place, start as u64, end as u64),
-                Ok(Step::NoMore) => Answer::NoMore,
-                Err(refused) => Answer::Refused(refused),
-            },
-            Question::View { bytes, place } => places::view(bytes, *place)
-                .map_or_else(Answer::Refused, |(start, end)| Answer::View(start as u64, end as u64)),
-            Question::Lookup { bytes, place, name } => {
-                places::lookup(bytes, *place, name).map_or_else(Answer::Refused, Answer::Place)
-            }
-            Question::Double { bytes, place } => value(values::double(bytes, *place)),
-            Question::Signed { bytes, place } => value(values::signed(bytes, *place)),
-            Question::Unsigned { bytes, place } => value(values::unsigned(bytes, *place)),
-            Question::Ticks { bytes, place } => value(values::ticks(bytes, *place)),
             Question::Write { list, output_length, work_length } => {
                 written(*output_length, *work_length, |output, work| write::write(list, output, work))
             }
             Question::Program { input } => Answer::Printed(program::print(input)),
+            _ => return None,
         })
     }
 }
@@ -179,6 +166,21 @@ impl Question {
             }),
             ["program", input] => Ok(Question::Program { input: bytes_of(input)? }),
             _ => Err(format!("no question: {text}")),
+        }
+    }
+
+    /// A question of the reading calls: the payload, and what is asked of it.
+    pub fn reading(&self) -> Option<(&[u8], Reading<'_>)> {
+        match self {
+            Question::Mask { .. } | Question::Write { .. } | Question::Program { .. } => None,
+            Question::Top { bytes } => Some((bytes, Reading::Top)),
+            Question::Step { bytes, place, last } => Some((bytes, Reading::Step(*place, *last))),
+            Question::View { bytes, place } => Some((bytes, Reading::View(*place))),
+            Question::Lookup { bytes, place, name } => Some((bytes, Reading::Lookup(*place, name))),
+            Question::Double { bytes, place } => Some((bytes, Reading::Double(*place))),
+            Question::Signed { bytes, place } => Some((bytes, Reading::Signed(*place))),
+            Question::Unsigned { bytes, place } => Some((bytes, Reading::Unsigned(*place))),
+            Question::Ticks { bytes, place } => Some((bytes, Reading::Ticks(*place))),
         }
     }
 

@@ -5,3 +5,5 @@ pub mod cases;
 pub mod generate;
 pub mod independent;
 pub mod library;
+pub mod reading;
+pub mod walk;

@@ -2,6 +2,7 @@
 //! the call: `build.rs` looks at its symbols and says which calls are there, by a flag `has_NAME` for each.
 
 use crate::cases::{Answer, Answers, Question};
+use crate::independent::places::Place;
 
 /// A foreign function of the library, as a module of its name with `HAS`, and with the function where it is there.
 macro_rules! foreign {
@@ -15,6 +16,7 @@ macro_rules! foreign {
 
             #[cfg($flag)]
             #[inline(always)]
+            #[allow(clippy::too_many_arguments)]
             pub unsafe fn call($($argument: $type),*) -> Option<$answer> {
                 // Safety: the caller's.
                 Some(unsafe { $name($($argument),*) })
@@ -22,6 +24,7 @@ macro_rules! foreign {
 
             #[cfg(not($flag))]
             #[inline(always)]
+            #[allow(clippy::too_many_arguments)]
             pub unsafe fn call($(_: $type),*) -> Option<$answer> {
                 None
             }
@@ -48,6 +51,42 @@ foreign!(has_widen, foreign_widen,
     /// The bits of the widened Float32.
     fn ajuqvane_widen(bits: u32) -> u64);
 
+// The reading calls: 0, with the answer at the front of the lent numbers; a fault's number; or one of the numbers below.
+foreign!(has_check, foreign_check,
+    /// The check of a place.
+    fn ajuqvane_check(payload: *const u8, length: usize, kind: u8, start: usize, end: usize, depth: u32) -> u32);
+foreign!(has_top, foreign_top,
+    /// Kind, start, end and depth.
+    fn ajuqvane_top(payload: *const u8, length: usize, answer: *mut u64, count: usize) -> u32);
+foreign!(has_step, foreign_step,
+    /// Kind, start, end and depth of the next field, and where its name begins.
+    fn ajuqvane_step(
+        payload: *const u8,
+        length: usize,
+        kind: u8,
+        start: usize,
+        end: usize,
+        depth: u32,
+        some: u32,
+        last: usize,
+        answer: *mut u64,
+        count: usize
+    ) -> u32);
+foreign!(has_lookup, foreign_lookup,
+    /// Kind, start, end and depth.
+    fn ajuqvane_lookup(
+        payload: *const u8,
+        length: usize,
+        kind: u8,
+        start: usize,
+        end: usize,
+        depth: u32,
+        name: *const u8,
+        name_length: usize,
+        answer: *mut u64,
+        count: usize
+    ) -> u32);
+
 /// Which calls the library has.
 pub const HAS_VALIDATE: bool = cfg!(has_validate);
 pub const HAS_VARUINT: bool = cfg!(has_varuint);
@@ -55,12 +94,21 @@ pub const HAS_IS_TEXT: bool = cfg!(has_is_text);
 pub const HAS_ARE_EQUAL: bool = cfg!(has_are_equal);
 pub const HAS_FLOAT32_HOLDS: bool = cfg!(has_float32_holds);
 pub const HAS_WIDEN: bool = cfg!(has_widen);
-/// Top, step, view, lookup and the values.
-pub const HAS_PLACES: bool = false;
+/// The check of a place, top, step, view, lookup and the values.
+pub const HAS_PLACES: bool =
+    cfg!(all(has_check, has_top, has_step, has_view, has_lookup, has_double, has_signed, has_unsigned, has_ticks));
 /// The writer.
 pub const HAS_WRITE: bool = false;
 /// Whether the library has any call.
-pub const HAS_ANY: bool = HAS_VALIDATE || HAS_VARUINT || HAS_IS_TEXT || HAS_ARE_EQUAL || HAS_FLOAT32_HOLDS || HAS_WIDEN;
+pub const HAS_ANY: bool =
+    HAS_VALIDATE || HAS_VARUINT || HAS_IS_TEXT || HAS_ARE_EQUAL || HAS_FLOAT32_HOLDS || HAS_WIDEN || HAS_PLACES;
+
+/// What the reading calls answer where they neither have an answer nor meet a fault.
+pub const NO_MORE: u32 = 3;
+pub const NOT_THERE: u32 = 5;
+pub const WRONG_KIND: u32 = 6;
+pub const OUT_OF_RANGE: u32 = 7;
+pub const TOO_FEW: u32 = 9;
 
 /// The mask.
 #[inline(always)]
@@ -104,6 +152,118 @@ pub fn widen(bits: u32) -> Option<u64> {
     unsafe { foreign_widen::call(bits) }
 }
 
+/// The check of a place: 0 or a fault's number.
+#[inline(always)]
+pub fn check(payload: &[u8], place: Place) -> Option<u32> {
+    let Place { kind, start, end, depth } = place;
+    // Safety: pointer and length are those of a slice; a place may be any numbers.
+    unsafe { foreign_check::call(payload.as_ptr(), payload.len(), kind, start as usize, end as usize, depth) }
+}
+
+/// The top place: kind, start, end and depth.
+#[inline(always)]
+pub fn top(payload: &[u8], answer: &mut [u64]) -> Option<u32> {
+    // Safety: each pointer and length are those of a slice, and the one written to is lent mutably.
+    unsafe { foreign_top::call(payload.as_ptr(), payload.len(), answer.as_mut_ptr(), answer.len()) }
+}
+
+/// A step from the end of the last place, or from the contents' start if `some` is 0: the field's kind, start, end and
+/// depth, and where its name begins.
+#[inline(always)]
+pub fn step(payload: &[u8], place: Place, some: u32, last: u64, answer: &mut [u64]) -> Option<u32> {
+    let Place { kind, start, end, depth } = place;
+    // Safety: each pointer and length are those of a slice, and the one written to is lent mutably; a place may be any
+    // numbers.
+    unsafe {
+        foreign_step::call(
+            payload.as_ptr(),
+            payload.len(),
+            kind,
+            start as usize,
+            end as usize,
+            depth,
+            some,
+            last as usize,
+            answer.as_mut_ptr(),
+            answer.len(),
+        )
+    }
+}
+
+/// Lookup by name: kind, start, end and depth of the first field that has it.
+#[inline(always)]
+pub fn lookup(payload: &[u8], place: Place, name: &[u8], answer: &mut [u64]) -> Option<u32> {
+    let Place { kind, start, end, depth } = place;
+    // Safety: each pointer and length are those of a slice, and the one written to is lent mutably; a place may be any
+    // numbers.
+    unsafe {
+        foreign_lookup::call(
+            payload.as_ptr(),
+            payload.len(),
+            kind,
+            start as usize,
+            end as usize,
+            depth,
+            name.as_ptr(),
+            name.len(),
+            answer.as_mut_ptr(),
+            answer.len(),
+        )
+    }
+}
+
+/// A call that takes a payload, a place and lent numbers, and nothing else: its foreign function and its wrapper.
+macro_rules! at_place {
+    ($flag:ident, $module:ident, $foreign:ident, $(#[$about:meta])* fn $name:ident) => {
+        foreign!($flag, $module, fn $foreign(
+            payload: *const u8,
+            length: usize,
+            kind: u8,
+            start: usize,
+            end: usize,
+            depth: u32,
+            answer: *mut u64,
+            count: usize
+        ) -> u32);
+
+        $(#[$about])*
+        #[inline(always)]
+        pub fn $name(payload: &[u8], place: Place, answer: &mut [u64]) -> Option<u32> {
+            let Place { kind, start, end, depth } = place;
+            // Safety: each pointer and length are those of a slice, and the one written to is lent mutably; a place may be
+            // any numbers.
+            unsafe {
+                $module::call(
+                    payload.as_ptr(),
+                    payload.len(),
+                    kind,
+                    start as usize,
+                    end as usize,
+                    depth,
+                    answer.as_mut_ptr(),
+                    answer.len(),
+                )
+            }
+        }
+    };
+}
+
+at_place!(has_view, foreign_view, ajuqvane_view,
+    /// A place's view: start and end.
+    fn view);
+at_place!(has_double, foreign_double, ajuqvane_double,
+    /// A number as a double: its 64 bits.
+    fn double);
+at_place!(has_signed, foreign_signed, ajuqvane_signed,
+    /// An integer as a signed number, in two's complement.
+    fn signed);
+at_place!(has_unsigned, foreign_unsigned, ajuqvane_unsigned,
+    /// An integer as an unsigned number.
+    fn unsigned);
+at_place!(has_ticks, foreign_ticks, ajuqvane_ticks,
+    /// The ticks of a date or a span of time, in two's complement.
+    fn ticks);
+
 /// The library as one who answers questions. A kind of question gets its answer here once the library has its call.
 pub struct Library;
 
@@ -111,8 +271,9 @@ impl Answers for Library {
     fn answer(&self, question: &Question) -> Option<Answer> {
         match question {
             Question::Mask { modes, bytes } => validate(*modes, bytes).map(Answer::Mask),
-            // Places, steps, views, lookup, values and the writer: no calls yet.
-            _ => None,
+            // The writer: no calls yet.
+            Question::Write { .. } | Question::Program { .. } => None,
+            _ => question.reading().and_then(|(bytes, reading)| reading.by_library(bytes)),
         }
     }
 }

@@ -4,12 +4,11 @@
 use ajuqvane_tests::cases::{Answers, Independent, Question};
 use ajuqvane_tests::generate::{lists, payloads, trees, Random};
 use ajuqvane_tests::independent::encode::encode;
-use ajuqvane_tests::independent::kinds::*;
 use ajuqvane_tests::independent::mask::mask;
-use ajuqvane_tests::independent::places::{step, top, view, Place, Step};
-use ajuqvane_tests::independent::tree::{tree_of, Float, Tree};
+use ajuqvane_tests::independent::tree::tree_of;
 use ajuqvane_tests::independent::write::write;
-use ajuqvane_tests::independent::{number, values, LENGTH_LIMIT};
+use ajuqvane_tests::independent::LENGTH_LIMIT;
+use ajuqvane_tests::walk::walk;
 
 const SEED: u64 = 7;
 const INPUTS: u64 = 20_000;
@@ -69,55 +68,12 @@ fn one_spelling_and_modes_that_choose() {
     }
 }
 
-/// The tree that the calls on places show.
-fn shown(bytes: &[u8], place: Place) -> Tree {
-    let (start, end) = view(bytes, place).expect("a place that a step gave is sound");
-    let part = &bytes[start..end];
-    match place.kind {
-        NULL => Tree::Null,
-        FALSE => Tree::Bool(false),
-        TRUE => Tree::Bool(true),
-        OBJECT | UNIFORM_OBJECT | ARRAY | UNIFORM_ARRAY => {
-            let mut fields = Vec::new();
-            let mut last = None;
-            while let Step::Field(field, start, end) = step(bytes, place, last).expect("a sound payload") {
-                assert_eq!(field.depth, place.depth + 1);
-                fields.push((bytes[start..end].to_vec(), shown(bytes, field)));
-                last = Some(field.end);
-            }
-            match place.kind {
-                OBJECT | UNIFORM_OBJECT => Tree::Object(fields),
-                _ => Tree::Array(fields.into_iter().map(|(_, tree)| tree).collect()),
-            }
-        }
-        BINARY => Tree::Binary(part.to_vec()),
-        STRING => Tree::String(part.to_vec()),
-        INTEGER_POSITIVE => Tree::Integer(values::unsigned(bytes, place).expect("08 is in range").into()),
-        INTEGER_NEGATIVE => match values::signed(bytes, place) {
-            Ok(value) => Tree::Integer(value.into()),
-            Err(_) => Tree::Integer(-1 - i128::from(number::read_varuint(part).expect("whole").value)),
-        },
-        FLOAT32 => Tree::Float(Float::of_32(number::read_big_endian(part).expect("4 bytes") as u32)),
-        FLOAT64 => Tree::Float(Float::of_64(values::double(bytes, place).expect("a double"))),
-        CUSTOM_BY_ID => {
-            let id = number::read_varuint(part).expect("whole");
-            Tree::CustomById(id.value, part[id.taken..].to_vec())
-        }
-        CUSTOM_BY_NAME => {
-            let length = number::read_varuint(part).expect("whole");
-            let (name, rest) = part[length.taken..].split_at(length.value as usize);
-            Tree::CustomByName(name.to_vec(), rest.to_vec())
-        }
-        kind => Tree::Fixed(kind, part.to_vec()),
-    }
-}
-
 #[test]
 fn steps_show_the_tree() {
     for index in 0..INPUTS {
         let bytes = payloads::payload(&mut Random::new(SEED + 3, index));
         if let Some(tree) = tree_of(&bytes) {
-            assert_eq!(shown(&bytes, top(&bytes).expect("a sound payload has a top place")), tree);
+            assert_eq!(walk(&bytes, &|reading| reading.by_independent(&bytes)).tree, Ok(tree));
         }
     }
 }

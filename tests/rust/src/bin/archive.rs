@@ -7,8 +7,11 @@ use std::io::{Read, Write};
 use std::process::{Child, ChildStdin, ChildStdout, Command, ExitCode, Stdio};
 
 use ajuqvane_tests::cases::hexadecimal;
-use ajuqvane_tests::generate::{payloads, Random};
+use ajuqvane_tests::generate::{payloads, places, Random};
+use ajuqvane_tests::independent::places::{check, Place};
 use ajuqvane_tests::independent::{float, mask, number, text};
+use ajuqvane_tests::library::TOO_FEW;
+use ajuqvane_tests::reading::Reading;
 
 const SEED: u64 = 23;
 /// What a call that is not there answers.
@@ -27,41 +30,132 @@ enum Call {
     AreEqual,
     Float32Holds,
     Widen,
+    Check,
+    Top,
+    Step,
+    View,
+    Lookup,
+    Double,
+    Signed,
+    Unsigned,
+    Ticks,
 }
 
-/// Requests, each with the answer that is expected.
+/// Questions about places of each payload.
+const PLACES: usize = 12;
+/// What lent numbers hold before a call.
+const BEFORE: u64 = 7;
+
+/// The arguments of a call beside its bytes.
+#[derive(Clone, Copy, Debug, Default)]
+struct Arguments {
+    /// What it means is the call's.
+    number: u64,
+    place: Option<Place>,
+    some: u32,
+    last: u64,
+    /// How many numbers are lent.
+    count: usize,
+}
+
+/// What is answered, and the lent numbers afterwards, then 0.
+type Given = [u64; 6];
+
+/// A request and the answer that is expected.
+struct Asked {
+    call: Call,
+    arguments: Arguments,
+    bytes: Vec<u8>,
+    expected: Given,
+}
+
 #[derive(Default)]
 struct Requests {
     bytes: Vec<u8>,
-    expected: Vec<(Call, u64, Vec<u8>, [u64; 4])>,
+    asked: Vec<Asked>,
+}
+
+/// An answer with so many lent numbers, the first of which were written.
+fn given(code: u32, written: &[u64], count: usize) -> Given {
+    let mut given = [0; 6];
+    given[0] = code.into();
+    given[1..=count].fill(BEFORE);
+    given[1..=written.len()].copy_from_slice(written);
+    given
 }
 
 impl Requests {
-    fn ask(&mut self, random: &mut Random, call: Call, number: u64, bytes: &[u8], expected: [u64; 4]) {
+    fn ask(&mut self, random: &mut Random, call: Call, arguments: Arguments, bytes: &[u8], expected: Given) {
+        let Arguments { number, place, some, last, count } = arguments;
+        let Place { kind, start, end, depth } = place.unwrap_or(Place { kind: 0, start: 0, end: 0, depth: 0 });
         self.bytes.extend([call as u8, random.below(2) as u8]);
-        self.bytes.extend(number.to_le_bytes());
+        for number in [number, kind.into(), start, end, depth.into(), some.into(), last, count as u64] {
+            self.bytes.extend(number.to_le_bytes());
+        }
         self.bytes.extend((bytes.len() as u32).to_le_bytes());
         self.bytes.extend(bytes);
-        self.expected.push((call, number, bytes.to_vec(), expected));
+        self.asked.push(Asked { call, arguments, bytes: bytes.to_vec(), expected });
+    }
+
+    /// A reading call with as many numbers lent as it asks for or more, now and then fewer, and the check of its place.
+    fn ask_reading(&mut self, random: &mut Random, reading: Reading, payload: &[u8]) {
+        let needed = reading.numbers();
+        let count = if random.below(4) == 0 { random.below(needed) } else { random.between(needed, 5) };
+        let expected = match Reading::numbers_of(&reading.by_independent(payload)) {
+            _ if count < needed => given(TOO_FEW, &[], count),
+            Some((code, numbers)) => given(code, &numbers, count),
+            None => return,
+        };
+        let mut arguments = Arguments { place: reading.place(), count, ..Arguments::default() };
+        let mut bytes = payload.to_vec();
+        let call = match reading {
+            Reading::Top => Call::Top,
+            Reading::Step(_, last) => {
+                (arguments.some, arguments.last) = last.map_or((0, random.next()), |last| (1, last));
+                Call::Step
+            }
+            Reading::View(_) => Call::View,
+            Reading::Lookup(_, name) => {
+                arguments.number = payload.len() as u64;
+                bytes.extend_from_slice(name);
+                Call::Lookup
+            }
+            Reading::Double(_) => Call::Double,
+            Reading::Signed(_) => Call::Signed,
+            Reading::Unsigned(_) => Call::Unsigned,
+            Reading::Ticks(_) => Call::Ticks,
+        };
+        self.ask(random, call, arguments, &bytes, expected);
+        if let Some(place) = reading.place() {
+            let code = check(payload, place).map_or_else(|stop| stop.value(), |_| 0);
+            let arguments = Arguments { place: Some(place), ..Arguments::default() };
+            self.ask(random, Call::Check, arguments, payload, given(code, &[], 0));
+        }
     }
 
     /// The requests about one payload and about parts of it, and two about patterns.
     fn ask_all(&mut self, random: &mut Random) {
         let payload = payloads::payload(random);
         let other = random.next() as u32;
+        let with = |number: u64| Arguments { number, ..Arguments::default() };
         for modes in (0..8).chain([other]) {
-            let answer = u64::from(mask::mask(modes, &payload));
-            self.ask(random, Call::Validate, modes.into(), &payload, [answer, 0, 0, 0]);
+            let answer = mask::mask(modes, &payload);
+            self.ask(random, Call::Validate, with(modes.into()), &payload, given(answer, &[], 0));
+        }
+        for question in places::questions(random, &payload, PLACES) {
+            if let Some((bytes, reading)) = question.reading() {
+                self.ask_reading(random, reading, bytes);
+            }
         }
         let start = random.below(payload.len() + 1);
         let end = random.between(start, payload.len().min(start + 300));
         let part = payload.get(start..end).unwrap_or(&[]);
         let answer = match number::read_varuint(part) {
-            Some(number) => [0, number.value, number.taken as u64, u64::from(number.minimal)],
-            None => [1, 7, 7, 7],
+            Some(number) => given(0, &[number.value, number.taken as u64, u64::from(number.minimal)], 3),
+            None => given(1, &[], 3),
         };
-        self.ask(random, Call::VarUInt, 0, part, answer);
-        self.ask(random, Call::IsText, 0, part, [text::is_text(part).into(), 0, 0, 0]);
+        self.ask(random, Call::VarUInt, Arguments { count: 3, ..Arguments::default() }, part, answer);
+        self.ask(random, Call::IsText, with(0), part, given(text::is_text(part).into(), &[], 0));
         // The part and itself, or with a bit changed, or cut.
         let mut both = [part, part].concat();
         if let (0, Some(at)) = (random.below(2), both.len().checked_sub(1).map(|last| random.below(last + 1))) {
@@ -70,11 +164,11 @@ impl Requests {
         let split = if random.below(4) == 0 { random.below(both.len() + 1) } else { part.len() };
         let (a, b) = both.split_at(split);
         let equal = a == b;
-        self.ask(random, Call::AreEqual, split as u64, &both, [equal.into(), 0, 0, 0]);
+        self.ask(random, Call::AreEqual, with(split as u64), &both, given(equal.into(), &[], 0));
         let bits = random.double_bits();
-        self.ask(random, Call::Float32Holds, bits, &[], [float::float32_holds(bits).into(), 0, 0, 0]);
+        self.ask(random, Call::Float32Holds, with(bits), &[], given(float::float32_holds(bits).into(), &[], 0));
         let bits = random.float_bits();
-        self.ask(random, Call::Widen, bits.into(), &[], [float::widen(bits), 0, 0, 0]);
+        self.ask(random, Call::Widen, with(bits.into()), &[], [float::widen(bits), 0, 0, 0, 0, 0]);
     }
 }
 
@@ -94,7 +188,7 @@ impl Caller {
         Ok(Caller { child, input, output })
     }
 
-    fn answers(&mut self, requests: &Requests) -> std::io::Result<Vec<[u64; 4]>> {
+    fn answers(&mut self, requests: &Requests) -> std::io::Result<Vec<Given>> {
         self.input.write_all(&(requests.bytes.len() as u32).to_le_bytes())?;
         self.input.write_all(&requests.bytes)?;
         self.input.flush()?;
@@ -105,7 +199,7 @@ impl Caller {
         let numbers =
             bytes.chunks_exact(8).map(|chunk| chunk.iter().rev().fold(0, |n, byte| n << 8 | u64::from(*byte)));
         let numbers: Vec<u64> = numbers.collect();
-        Ok(numbers.chunks_exact(4).map(|four| [four[0], four[1], four[2], four[3]]).collect())
+        Ok(numbers.chunks_exact(6).map(|six| std::array::from_fn(|at| six[at])).collect())
     }
 }
 
@@ -129,14 +223,14 @@ fn main() -> ExitCode {
             requests.ask_all(&mut Random::new(SEED, index));
         }
         let answers = match caller.answers(&requests) {
-            Ok(answers) if answers.len() == requests.expected.len() => answers,
+            Ok(answers) if answers.len() == requests.asked.len() => answers,
             _ => {
                 let ended = caller.child.wait().map_or("?".to_string(), |status| status.to_string());
                 eprintln!("the program ended ({ended}) on payloads {first} to {}", first + BLOCK - 1);
                 return ExitCode::from(2);
             }
         };
-        for ((call, number, bytes, expected), answer) in requests.expected.iter().zip(answers) {
+        for (Asked { call, arguments, bytes, expected }, answer) in requests.asked.iter().zip(answers) {
             if answer[0] == ABSENT {
                 continue;
             }
@@ -144,7 +238,7 @@ fn main() -> ExitCode {
             if answer != *expected {
                 different += 1;
                 if different <= PRINTED {
-                    println!("{call:?} {number} {}\t{expected:?}\tlibrary: {answer:?}", hexadecimal(bytes));
+                    println!("{call:?} {arguments:?} {}\t{expected:?}\tlibrary: {answer:?}", hexadecimal(bytes));
                 }
             }
         }

@@ -1,22 +1,28 @@
 //! compare [--spread] COUNT [SEED]: makes COUNT payloads, each with questions about it (its mask in modes 0 to 7 and in one
-//! random number, and what else the library has calls for), and COUNT write lists if the library has a writer, and holds
-//! the library's answers to the independent implementation's. A failing question is printed as a line of a case file, with
-//! the library's answer after it. The last line is `compared N, differences M`; the exit status is 1 if M is not 0, and 2
-//! if the library has no call. With --spread the independent implementation answers alone, and what is printed is how often
-//! each answer comes.
+//! random number, and what else the library has calls for: questions about places true and forged, and a walk by steps
+//! through the whole payload), and COUNT write lists if the library has a writer, and holds the library's answers to the
+//! independent implementation's. A failing question is printed as a line of a case file, with the library's answer after it.
+//! Each kind of question is printed with how often it was compared, and last `compared N, differences M`; the exit status is
+//! 1 if M is not 0, and 2 if the library has no call. With --spread the independent implementation answers alone, and what
+//! is printed is how often each answer comes.
 
 use std::collections::BTreeMap;
 use std::process::ExitCode;
 
 use ajuqvane_tests::cases::{hexadecimal, Answer, Answers, Independent, Question};
 use ajuqvane_tests::generate::{lists, mask_questions, payloads, places, Random};
-use ajuqvane_tests::independent::{number, text};
+use ajuqvane_tests::independent::tree::tree_of;
+use ajuqvane_tests::independent::{number, places as independent_places, text};
 use ajuqvane_tests::library::{self, Library};
+use ajuqvane_tests::reading::Reading;
+use ajuqvane_tests::walk::walk;
 
 /// The seed if none is given.
 const SEED: u64 = 20_260_101;
 /// Questions about places of each payload.
 const PLACES: usize = 12;
+/// The values of so many fields of each walk are compared.
+const WALKED: usize = 16;
 /// At most so many failing inputs are printed.
 const PRINTED: u64 = 20;
 
@@ -46,19 +52,27 @@ fn main() -> ExitCode {
     let mut tally = Tally::default();
     for index in 0..count {
         let mut random = Random::new(seed, index);
-        for question in questions(&mut random, library::HAS_PLACES, library::HAS_WRITE, &mut tally) {
+        tally.index = index;
+        let payload = payloads::payload(&mut random);
+        compare_leaves(&mut random, &payload, &mut tally);
+        if library::HAS_PLACES {
+            compare_walk(&payload, &mut tally);
+        }
+        for question in questions(&mut random, &payload, library::HAS_PLACES, library::HAS_WRITE) {
             if let Some(given) = Library.answer(&question) {
                 let expected = Independent.answer(&question);
-                if expected.as_ref() == Some(&given) {
-                    tally.same += 1;
-                } else {
+                tally.hold(question.kind(), expected.as_ref() == Some(&given), || {
                     let expected = expected.map_or("none".to_string(), |answer| answer.to_string());
-                    tally.differs(index, format!("{question}\t{expected}\tlibrary: {given}"));
-                }
+                    format!("{question}\t{expected}\tlibrary: {given}")
+                });
             }
+            compare_more(&mut random, &question, &mut tally);
         }
     }
-    println!("compared {}, differences {}", tally.same + tally.different, tally.different);
+    for (kind, count) in &tally.compared {
+        println!("{kind}: {count}");
+    }
+    println!("compared {}, differences {}", tally.compared.values().sum::<u64>(), tally.different);
     ExitCode::from(u8::from(tally.different != 0))
 }
 
@@ -69,26 +83,29 @@ fn usage() -> ExitCode {
 
 #[derive(Default)]
 struct Tally {
-    same: u64,
+    /// The input that is compared.
+    index: u64,
+    compared: BTreeMap<&'static str, u64>,
     different: u64,
 }
 
 impl Tally {
-    fn differs(&mut self, index: u64, line: String) {
-        self.different += 1;
-        if self.different <= PRINTED {
-            println!("input {index}: {line}");
+    fn hold(&mut self, kind: &'static str, same: bool, line: impl FnOnce() -> String) {
+        *self.compared.entry(kind).or_default() += 1;
+        if !same {
+            self.different += 1;
+            if self.different <= PRINTED {
+                println!("input {}: {}", self.index, line());
+            }
         }
     }
 }
 
-/// The questions of one input. What the leaves say of parts of its payload is compared on the way.
-fn questions(random: &mut Random, with_places: bool, with_lists: bool, tally: &mut Tally) -> Vec<Question> {
-    let payload = payloads::payload(random);
-    let mut questions = mask_questions(random, &payload);
-    compare_leaves(random, &payload, tally);
+/// The questions of one input.
+fn questions(random: &mut Random, payload: &[u8], with_places: bool, with_lists: bool) -> Vec<Question> {
+    let mut questions = mask_questions(random, payload);
     if with_places {
-        questions.extend(places::questions(random, &payload, PLACES));
+        questions.extend(places::questions(random, payload, PLACES));
     }
     if with_lists {
         let list = match random.below(200) {
@@ -101,6 +118,59 @@ fn questions(random: &mut Random, with_places: bool, with_lists: bool, tally: &m
     questions
 }
 
+/// What a case file has no question for: the check of a place by itself, and the other numbers that say of a step whether there
+/// is a last place.
+fn compare_more(random: &mut Random, question: &Question, tally: &mut Tally) {
+    let Some((bytes, reading)) = question.reading() else { return };
+    let Some(place) = reading.place() else { return };
+    if let Some(given) = library::check(bytes, place) {
+        let expected = independent_places::check(bytes, place).map_or_else(|stop| stop.value(), |_| 0);
+        tally.hold("check", given == expected, || format!("check, as {question}\t{expected}\tlibrary: {given}"));
+    }
+    if let Reading::Step(place, last) = reading {
+        // No last place whatever its end, and one by any number but 0.
+        let (some, end) = match last {
+            None => (0, random.next() >> random.below(64)),
+            Some(end) => (1 << random.below(32) | random.next() as u32, end),
+        };
+        let mut answer = [0; 5];
+        if let Some(code) = library::step(bytes, place, some, end, &mut answer) {
+            let given = reading.told(code, &answer);
+            let expected = reading.by_independent(bytes);
+            tally.hold("step, said otherwise", given == expected, || {
+                format!("{question}\t{expected}\tlibrary, with {some} {end} for the last place: {given}")
+            });
+        }
+    }
+}
+
+/// A walk by steps through the library: it meets what a walk through the independent implementation meets, and shows the
+/// tree of a payload that has one. At each of its first fields the calls on values are compared too.
+fn compare_walk(payload: &[u8], tally: &mut Tally) {
+    let absent = || Answer::Broken("no such call".to_string());
+    let given = walk(payload, &|reading| reading.by_library(payload).unwrap_or_else(absent));
+    let expected = walk(payload, &|reading| reading.by_independent(payload));
+    tally
+        .hold("walk", given == expected, || format!("walk {}\t{expected:?}\tlibrary: {given:?}", hexadecimal(payload)));
+    if let Some(tree) = tree_of(payload) {
+        let same = given.tree.as_ref() == Ok(&tree);
+        tally.hold("tree by a walk", same, || {
+            format!("walk {}\t{tree:?}\tlibrary: {:?}", hexadecimal(payload), given.tree)
+        });
+    }
+    for (place, _, _) in given.fields.iter().take(WALKED) {
+        for reading in
+            [Reading::Double(*place), Reading::Signed(*place), Reading::Unsigned(*place), Reading::Ticks(*place)]
+        {
+            let expected = reading.by_independent(payload);
+            let given = reading.by_library(payload).unwrap_or_else(absent);
+            tally.hold("value on a walk", given == expected, || {
+                format!("{}\t{expected}\tlibrary: {given}", reading.question(payload))
+            });
+        }
+    }
+}
+
 /// The number, text and equality calls on parts of a payload.
 fn compare_leaves(random: &mut Random, payload: &[u8], tally: &mut Tally) {
     let mut part = || {
@@ -109,12 +179,8 @@ fn compare_leaves(random: &mut Random, payload: &[u8], tally: &mut Tally) {
         &payload[start..end]
     };
     let (a, b) = (part(), part());
-    let mut hold = |call: &str, same: bool, given: String| {
-        if same {
-            tally.same += 1;
-        } else {
-            tally.differs(0, format!("{call} {} {}\tlibrary: {given}", hexadecimal(a), hexadecimal(b)));
-        }
+    let mut hold = |call: &'static str, same: bool, given: String| {
+        tally.hold(call, same, || format!("{call} {} {}\tlibrary: {given}", hexadecimal(a), hexadecimal(b)));
     };
     let before = [1, 2, 3];
     let mut answer = before;
@@ -140,7 +206,8 @@ fn print_spread(count: u64, seed: u64) {
     let mut spread: BTreeMap<(&str, String), u64> = BTreeMap::new();
     for index in 0..count {
         let mut random = Random::new(seed, index);
-        for question in questions(&mut random, true, true, &mut Tally::default()) {
+        let payload = payloads::payload(&mut random);
+        for question in questions(&mut random, &payload, true, true) {
             if let Some(answer) = Independent.answer(&question) {
                 let label = match answer {
                     Answer::Printed(text) if text.starts_with("refused") => {

@@ -7,15 +7,18 @@ use std::process::ExitCode;
 use std::sync::atomic::{AtomicU64, Ordering};
 
 use ajuqvane_tests::cases::hexadecimal;
-use ajuqvane_tests::generate::{payloads, Random};
-use ajuqvane_tests::independent::{mask, number, text};
+use ajuqvane_tests::generate::{payloads, places, Random};
+use ajuqvane_tests::independent::{mask, number, places as independent_places, text};
 use ajuqvane_tests::library;
+use ajuqvane_tests::reading::{Reading, BEFORE};
 
 const SEED: u64 = 13;
 /// The longest payload.
 const LONGEST: usize = 300;
 /// Payloads of each length.
 const PAYLOADS: u64 = 60;
+/// Questions about places of each payload.
+const PLACES: usize = 24;
 
 extern "C" {
     fn mmap(
@@ -122,10 +125,14 @@ struct Tally {
 
 impl Tally {
     fn hold(&mut self, call: &str, same: bool, payload: &[u8]) {
+        self.hold_or_say(same, || format!("{call} {}", hexadecimal(payload)));
+    }
+
+    fn hold_or_say(&mut self, same: bool, line: impl FnOnce() -> String) {
         self.calls += 1;
         if !same {
             self.differences += 1;
-            println!("{call} {}", hexadecimal(payload));
+            println!("{}", line());
         }
     }
 }
@@ -148,6 +155,15 @@ fn main() -> ExitCode {
                 page.part(length, flush).copy_from_slice(&payload);
                 page.protect(PROT_READ);
                 calls(&mut tally, page.part(length, flush), &mut other_page, &mut answer_page, flush);
+                let mut random = Random::new(SEED + 1, (length as u64) << 32 | round);
+                reading_calls(
+                    &mut tally,
+                    &mut random,
+                    page.part(length, flush),
+                    &mut other_page,
+                    &mut answer_page,
+                    flush,
+                );
                 page.protect(PROT_READ | PROT_WRITE);
             }
         }
@@ -212,5 +228,54 @@ fn calls(tally: &mut Tally, payload: &[u8], other_page: &mut Guarded, answer_pag
             None => (1, [7; 3]),
         };
         tally.hold("varuint", given == expected.0 && *answer == expected.1, payload);
+    }
+}
+
+/// The reading calls, with the name that is looked up and the lent numbers between such pages too: as many numbers as the call
+/// asks for, and every count below.
+fn reading_calls(
+    tally: &mut Tally,
+    random: &mut Random,
+    payload: &[u8],
+    other_page: &mut Guarded,
+    answer_page: &mut Guarded,
+    flush: Flush,
+) {
+    if !library::HAS_PLACES {
+        return;
+    }
+    for question in places::questions(random, payload, PLACES) {
+        let Some((_, asked)) = question.reading() else { continue };
+        let expected = asked.by_independent(payload);
+        let name = match asked {
+            Reading::Lookup(_, name) => name,
+            _ => &[],
+        };
+        let name_part = other_page.part(name.len(), flush);
+        name_part.copy_from_slice(name);
+        let reading = match asked {
+            Reading::Lookup(place, _) => Reading::Lookup(place, name_part),
+            other => other,
+        };
+        for count in 0..=reading.numbers() {
+            let answer = answer_page.part::<u64>(count, flush);
+            answer.fill(BEFORE);
+            let Some(code) = reading.call(payload, answer) else { continue };
+            let untouched = answer.iter().all(|number| *number == BEFORE);
+            let same = if count < reading.numbers() {
+                code == library::TOO_FEW && untouched
+            } else {
+                reading.told(code, answer) == expected && (code == 0 || untouched)
+            };
+            tally.hold_or_say(same, || {
+                format!("{question}\t{expected}\tlibrary, with {count} numbers lent: {code} {answer:?}")
+            });
+        }
+        if let Some(place) = reading.place() {
+            let expected = independent_places::check(payload, place).map_or_else(|stop| stop.value(), |_| 0);
+            if let Some(given) = library::check(payload, place) {
+                tally.hold_or_say(given == expected, || format!("check, as {question}\t{expected}\tlibrary: {given}"));
+            }
+        }
     }
 }

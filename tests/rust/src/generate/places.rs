@@ -56,10 +56,43 @@ pub fn forge(random: &mut Random, bytes: &[u8], place: Place) -> Place {
             }
             1 => place.start = offset(random, bytes.len(), place.start),
             2 => place.end = offset(random, bytes.len(), place.end),
-            _ => place.depth = *random.pick(&[0, 1, 2, 30, 31, 32, 33, 34, 255, 256, 1 << 31, u32::MAX]),
+            _ => {
+                place.depth = match random.below(4) {
+                    0 => random.next() as u32,
+                    _ => *random.pick(&[0, 1, 2, 3, 16, 30, 31, 32, 33, 34, 255, 256, 1 << 31, u32::MAX]),
+                }
+            }
         }
     }
     place
+}
+
+/// A place that no step gave: any kind, mostly a known one and often a uniform one, at any bytes of the payload, or at numbers
+/// anywhere.
+fn invented(random: &mut Random, bytes: &[u8]) -> Place {
+    let kind = match random.below(8) {
+        0 => random.byte(),
+        1..=3 => *random.pick(&[UNIFORM_OBJECT, UNIFORM_ARRAY]),
+        _ => *random.pick(&ALL),
+    };
+    let depth = if random.below(8) == 0 { random.next() as u32 } else { random.between(0, 34) as u32 };
+    let (start, end) = match random.below(8) {
+        0 => (offset(random, bytes.len(), 1), offset(random, bytes.len(), bytes.len() as u64)),
+        1 => (random.next(), random.next()),
+        2 => {
+            let start = random.below(bytes.len() + 1);
+            (start as u64, random.between(start, bytes.len()) as u64)
+        }
+        // A byte as a size that fits, so that what stands before the contents is reached.
+        _ => {
+            let starts: Vec<usize> =
+                (0..bytes.len().min(MOST)).filter(|at| at + usize::from(bytes[*at]) < bytes.len()).collect();
+            let start = if starts.is_empty() { 0 } else { *random.pick(&starts) };
+            let size = bytes.get(start).map_or(0, |size| usize::from(*size));
+            (start as u64, (start + 1 + size) as u64)
+        }
+    };
+    Place { kind, start, end, depth }
 }
 
 /// A name to look up in a place: one that is there, nearly one, an empty one, or any of the payload.
@@ -76,7 +109,7 @@ fn name(random: &mut Random, bytes: &[u8], place: Place, places: &[(Place, usize
         _ => None,
     };
     let mut name = range.and_then(|(_, start, end)| bytes.get(start..end)).unwrap_or(&[]).to_vec();
-    match random.below(12) {
+    match random.below(16) {
         0 => {
             if let Some(last) = name.last_mut() {
                 *last ^= 1;
@@ -87,19 +120,34 @@ fn name(random: &mut Random, bytes: &[u8], place: Place, places: &[(Place, usize
                 *first ^= 0x20;
             }
         }
-        2 => name.push(0),
-        3 => {
+        2 if !name.is_empty() => {
+            let at = random.below(name.len());
+            name[at] ^= 1 << random.below(8);
+        }
+        3 => name.push(0),
+        4 => {
             name.pop();
         }
-        4 => name.clear(),
+        5 => name.clear(),
+        // With the byte before it, or the one after it.
+        6 => {
+            if let Some((_, start, end)) = range {
+                let longer = if random.below(2) == 0 { start.saturating_sub(1)..end } else { start..end + 1 };
+                name = bytes.get(longer).map_or(name, <[u8]>::to_vec);
+            }
+        }
+        7 => name.extend_from_within(..),
         _ => {}
     }
     name
 }
 
-/// One of the places, mostly of one of the kinds if there is any, and one time in three forged. If there are no places, a
-/// forged one.
+/// One of the places, mostly of one of the kinds if there is any, and one time in three forged; or an invented one. If there
+/// are no places, a forged one.
 fn place(random: &mut Random, bytes: &[u8], found: &[(Place, usize, usize)], kinds: &[u8]) -> Place {
+    if random.below(10) == 0 {
+        return invented(random, bytes);
+    }
     let fitting: Vec<_> = found.iter().filter(|(place, _, _)| kinds.contains(&place.kind)).collect();
     let place = match (fitting.is_empty(), found.is_empty()) {
         (false, _) if random.below(6) != 0 => random.pick(&fitting).0,
