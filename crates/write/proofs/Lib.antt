@@ -1,0 +1,17 @@
+mod SmallLaws
+mod FaultCases
+mod Flaws
+mod NameCases
+mod LeafCases
+mod StackCases
+mod FrameCases
+mod ContainerLaws
+mod Used
+mod FieldCases
+mod LoopLaws
+mod PutLaws
+mod LeafPut
+mod Header
+mod PutField
+mod PutLoop
+mod Top

@@ -1,0 +1,194 @@
+-- The whole writer, by cases.
+use Prim.Native.Nat.{ℕ, zero, suc, _+_, _-_, _*_, _≤_, _<_}
+use native.Mathlib.Omega.{arith}
+use native.Mathlib.Nat.{zero-add, sub-zero}
+use native.Mathlib.Numerals.{add-one}
+use mathlib.Core.Path.{_≡_, refl, sym, ap, _∙_}
+use mathlib.Core.Bool.{false}
+use mathlib.Core.Option.{none}
+use mathlib.Core.List.{List, [], _∷_, _++_}
+use lib.ListN.{length, getD, drop, set, length-set, length-replicate, drop-of-length-le}
+use lib.Seq.{drop-cons, set-at, set-set, sets, sets-eq}
+use borrow.Author.Tests.{lt-ltb, le-ltb, eq-eqb, ne-eqb}
+use Rattle.number.proofs.ReadLaws.{Known, bytes-of}
+use Rattle.format.specs.declared.Refusal.{Refusal}
+use Rattle.format.specs.declared.Refusal.the-variants.{ListEnds, NoneOpen, Complete, ListTooLong, FewWorkNumbers, EncodingTooLong}
+use Rattle.format.specs.declared.Written.{Written}
+use Rattle.format.specs.declared.Written.the-variants.{Done, Refused}
+use Rattle.format.specs.Kinds.{id}
+use Rattle.format.specs.Tree.{Tree}
+use Rattle.format.specs.Encoding.{kindOf, payloadOf, encoding, sizesOf}
+use Rattle.format.specs.WriteList.{Frames, refused, framed, next, readFrames, only, readList}
+use Rattle.format.specs.Writer.{outcomeOf, outcomeAfter, outcome, zeros, resultOf, written}
+use Rattle.format.proofs.Lists.{append-nil}
+use Rattle.write.specs.declared.Measured.{Measured}
+use Rattle.write.specs.declared.Measured.the-variants as M
+use Rattle.write.specs.declared.Position.{Position}
+use Rattle.write.specs.Container.{typePart, namePart, packsOf}
+use Rattle.write.specs.Passes.{fieldMeasured, fieldWork, FieldAt, Lent, FieldGiven, FieldReady, FieldMakes}
+use Rattle.write.specs.Whole.{AllZero, result, refusalOf, writtenWithin}
+use Rattle.write.proofs.LoopLaws.{set-sets}
+use Rattle.write.proofs.PutLoop.{numbers-long}
+
+-- ---- clearing
+
+zeros-cons : (n : ℕ) (l : List ℕ) → zeros n ++ (0 ∷ l) ≡ 0 ∷ (zeros n ++ l)
+zeros-cons zero l = refl
+zeros-cons (suc n) l = ap (λ (m : List ℕ). 0 ∷ m) (zeros-cons n l)
+
+pub record Cleared (w₀ w : List ℕ) (i : ℕ) : Type 0 where
+  pub is : w ≡ zeros i ++ drop i w₀
+
+pub clear-start : (w : List ℕ) → Cleared w w 0
+clear-start w = record { is = refl }
+
+pub clear-more : (w₀ w : List ℕ) (i : ℕ) → Cleared w₀ w i → i < length w₀ → Cleared w₀ (set w i 0) (i + 1)
+clear-more w₀ w i e h =
+    record { is = rw (e .is, drop-cons w₀ i 0 h, set-at (zeros i) (getD w₀ i 0) (drop (suc i) w₀) 0 i (length-replicate i 0), add-one i) (zeros-cons i (drop (suc i) w₀)) }
+
+pub clear-done : (w₀ w : List ℕ) (i : ℕ) → Cleared w₀ w i → i ≤ length w₀ → length w₀ ≤ i → AllZero w₀ w
+clear-done w₀ w i e l h = let z : i ≡ length w₀ = omega arith in record { is = rw (e .is, drop-of-length-le w₀ h, append-nil, z) }
+
+-- what was as long is cleared alike
+pub zero-alike : (w v z : List ℕ) → AllZero v z → length v ≡ length w → AllZero w z
+zero-alike w v z e l = record { is = e .is ∙ rw l }
+
+drop-zeros : (n m : ℕ) → m ≤ n → drop m (zeros n) ≡ zeros (n - m)
+drop-zeros n zero h = rw (sub-zero n)
+drop-zeros zero (suc m) h = absurd (omega arith)
+drop-zeros (suc n) (suc m) h = let e : suc n - suc m ≡ n - m = omega arith in rw e (drop-zeros n m (omega arith))
+
+sets-over : (a b l : List ℕ) (i : ℕ) → length a ≡ length b → sets (sets l i a) i b ≡ sets l i b
+sets-over [] [] l i e = refl
+sets-over [] (y ∷ b) l i e = absurd (omega arith)
+sets-over (x ∷ a) [] l i e = absurd (omega arith)
+sets-over (x ∷ a) (y ∷ b) l i e = rw (set-sets a (set l i x) i (suc i) y (omega arith), set-set l i x y) (sets-over a b (set l i y) (suc i) (omega arith))
+
+sets-front : (vs l : List ℕ) → length vs ≤ length l → sets l 0 vs ≡ vs ++ drop (length vs) l
+sets-front vs l h = let e : 0 + length vs ≡ length vs = omega arith in rw e at (sets-eq vs l 0 (omega arith))
+
+pub refusal-of : (m : Measured) (n : Refusal) (p : ℕ) → m ≡ M.Refused n p → Refused n p ≡ refusalOf m
+refusal-of m n p e = rw e
+
+pub refusal-read : (m : Measured) (n i z t k : ℕ) → m ≡ M.Read n i z t k → Done z ≡ refusalOf m
+refusal-read m n i z t k e = rw e
+
+-- ---- at the start
+
+pub lent-start : (s names : List ℕ) → Known s → length s ≤ 65536 → length s ≤ 3 * length names → Lent s names 0 0 0 0
+lent-start s names kn h l = record { bytes = bytes-of s kn; short = h; room = l; ordered = omega arith; few-names = omega arith; few-numbers = omega arith; stack = record { inside = λ i q. absurd (omega arith) } }
+
+-- ---- the refusals: z is what the work numbers hold
+
+module _ (d : ℕ) (s out w : List ℕ) where
+  pub w-none : length s ≤ 0 → (z : List ℕ) → AllZero w z → result (Refused ListEnds 0) out z ≡ writtenWithin d s out w
+  unfolding writtenWithin readList
+  w-none i z e = rw (e .is) (go s i)
+    where
+      go : (s : List ℕ) → length s ≤ 0 → result (Refused ListEnds 0) out (zeros (length w)) ≡ resultOf (outcomeAfter d (length out) (length w) s (readList d s)) out w
+      go [] i = refl
+      go (b ∷ s) i = absurd (omega arith)
+
+  module _ (i : 0 < length s) where
+    pub w-shut : getD s 0 0 ≡ 0 → (z : List ℕ) → AllZero w z → result (Refused NoneOpen 0) out z ≡ writtenWithin d s out w
+    unfolding writtenWithin readList
+    w-shut b z e = rw (e .is) (go s b i)
+      where
+        go : (s : List ℕ) → getD s 0 0 ≡ 0 → 0 < length s → result (Refused NoneOpen 0) out (zeros (length w)) ≡ resultOf (outcomeAfter d (length out) (length w) s (readList d s)) out w
+        go [] b i = absurd (omega arith)
+        go (x ∷ s) b i = rw (eq-eqb x 0 b) (ap (λ (n : ℕ). result (Refused NoneOpen n) out (zeros (length w))) (omega arith))
+
+    module _ (b : getD s 0 0 ≡ 0 → ⊥) where
+      top-is : writtenWithin d s out w ≡ resultOf (outcomeAfter d (length out) (length w) s (next (readFrames d none s) only)) out w
+      unfolding writtenWithin readList
+      top-is = go s b i
+        where
+          go : (s : List ℕ) → (getD s 0 0 ≡ 0 → ⊥) → 0 < length s → resultOf (outcomeAfter d (length out) (length w) s (readList d s)) out w ≡ resultOf (outcomeAfter d (length out) (length w) s (next (readFrames d none s) only)) out w
+          go [] b i = absurd (omega arith)
+          go (x ∷ s) b i = rw (ne-eqb x 0 b)
+
+      module _ (names names′ w₀ w₁ : List ℕ) (m : Measured) (y : FieldAt d s 0 false 0 0 0 names names′ w₀ w₁ m) where
+        pub w-bad : (a : Refusal) (q : ℕ) → m ≡ M.Refused a q → (v : Written) → v ≡ refusalOf m → (z : List ℕ) → AllZero w z → result v out z ≡ writtenWithin d s out w
+        w-bad a q e v ev z ez = rw (ev, e, ez .is, top-is) (go (readFrames d none s) (sym e ∙ y .answer))
+          where
+            go : (o : Frames (List ℕ × Tree d)) → M.Refused a q ≡ fieldMeasured d (length s) false 0 0 o → result (Refused a q) out (zeros (length w)) ≡ resultOf (outcomeAfter d (length out) (length w) s (next o only)) out w
+            go (refused n r) e = let e₁ : a ≡ n = cc in let e₂ : q ≡ length s - length r = cc in rw (e₁, e₂)
+            go (framed t r) e = absurd (let z : _≡_ {A = ℕ} 0 1 = cc in omega arith)
+
+        module _ (next′ i′ size top k : ℕ) (e : m ≡ M.Read next′ i′ size top k) where
+          got-case : {X : Type 0} → ((x : List ℕ × Tree d) (r : List ℕ) → readFrames d none s ≡ framed x r → next′ ≡ length s - length r → i′ ≡ id (kindOf d (x .1)) → size ≡ length (payloadOf d (x .1)) → k ≡ length (packsOf d (x .1)) → w₁ ≡ sets w₀ 0 (packsOf d (x .1)) → X) → X
+          unfolding namePart
+          got-case {X} f = go (readFrames d none s) refl (sym e ∙ y .answer) (y .work)
+            where
+              go : (o : Frames (List ℕ × Tree d)) → readFrames d none s ≡ o → M.Read next′ i′ size top k ≡ fieldMeasured d (length s) false 0 0 o → w₁ ≡ fieldWork d 0 w₀ w₁ o → X
+              go (refused n r) e₀ e₁ e₂ = absurd (let z : _≡_ {A = ℕ} 0 1 = cc in omega arith)
+              go (framed x r) e₀ e₁ e₂ =
+                  let z : k ≡ 0 + length (packsOf d (x .1)) = cc in
+                  let y : size ≡ 0 + length (payloadOf d (x .1)) = cc in
+                  f x r e₀ (cc) (cc) (omega arith) (omega arith) e₂
+
+          pub w-after : next′ < length s → (z : List ℕ) → AllZero w z → result (Refused Complete next′) out z ≡ writtenWithin d s out w
+          w-after l z ez = got-case λ x r e₀ en ei el ek ew. rw (ez .is, top-is, e₀) (go x r en)
+            where
+              go : (x : List ℕ × Tree d) (r : List ℕ) → next′ ≡ length s - length r → result (Refused Complete next′) out (zeros (length w)) ≡ resultOf (outcomeAfter d (length out) (length w) s (only x r)) out w
+              go x [] en = absurd (omega arith)
+              go x (c ∷ r) en = rw en
+
+          module _ (l : length s ≤ next′) where
+            -- the list is used up
+            done-is : {X : Type 0} → ((x : List ℕ × Tree d) (r : List ℕ) → readFrames d none s ≡ framed x r → i′ ≡ id (kindOf d (x .1)) → length (encoding d (x .1)) ≡ suc size → encoding d (x .1) ≡ i′ ∷ payloadOf d (x .1)
+                → size ≡ length (payloadOf d (x .1)) → k ≡ length (sizesOf d (x .1)) → w₁ ≡ sets w₀ 0 (packsOf d (x .1))
+                → writtenWithin d s out w ≡ resultOf (outcomeOf (length out) (length w) (encoding d (x .1)) (sizesOf d (x .1))) out w → X) → X
+            unfolding encoding
+            done-is f = got-case λ x r e₀ en ei el ek ew.
+                let h : encoding d (x .1) ≡ i′ ∷ payloadOf d (x .1) = rw (zero-add, ei) in
+                f x r e₀ ei (ap suc (sym el)) h el (ek ∙ numbers-long d (x .1)) ew (top-is ∙ rw e₀ (go x r en))
+              where
+                go : (x : List ℕ × Tree d) (r : List ℕ) → next′ ≡ length s - length r → resultOf (outcomeAfter d (length out) (length w) s (only x r)) out w ≡ resultOf (outcomeOf (length out) (length w) (encoding d (x .1)) (sizesOf d (x .1))) out w
+                go x [] en = refl
+                go x (c ∷ r) en = absurd (omega arith)
+
+            pub w-few : length w < k → (z : List ℕ) → AllZero w z → result (Refused FewWorkNumbers 0) out z ≡ writtenWithin d s out w
+            w-few q z ez = done-is λ x r e₀ ei en eh el ek ew ed. rw (ed, ez .is, lt-ltb (length w) (length (sizesOf d (x .1))) (omega arith))
+
+            module _ (q : k ≤ length w) where
+              pub w-small : length out ≤ size → (z : List ℕ) → AllZero w z → result (Refused EncodingTooLong 0) out z ≡ writtenWithin d s out w
+              w-small u z ez = done-is λ x r e₀ ei en eh el ek ew ed. rw (ed, ez .is, le-ltb (length w) (length (sizesOf d (x .1))) (omega arith), lt-ltb (length out) (length (encoding d (x .1))) (omega arith))
+
+              module _ (u : size < length out) where
+                pub w-big : 65536 ≤ size → (z : List ℕ) → AllZero w z → result (Refused EncodingTooLong 0) out z ≡ writtenWithin d s out w
+                w-big v z ez = done-is λ x r e₀ ei en eh el ek ew ed.
+                    rw (ed, ez .is, le-ltb (length w) (length (sizesOf d (x .1))) (omega arith), le-ltb (length out) (length (encoding d (x .1))) (omega arith), lt-ltb 65536 (length (encoding d (x .1))) (omega arith))
+
+                module _ (v : size < 65536) (ez : AllZero w w₀) where
+                  kept : length w₀ ≡ length w
+                  kept = rw (ez .is, length-replicate)
+
+                  top-given : (x : List ℕ × Tree d) (r : List ℕ) → readFrames d none s ≡ framed x r → w₁ ≡ sets w₀ 0 (packsOf d (x .1)) → k ≡ length (sizesOf d (x .1)) → Known s → length s ≤ 65536 → FieldGiven d s 0 false 0 w₁ x r
+                  top-given x r e₀ ew ek kn h = record { used = []; more = drop (length (packsOf d (x .1))) w₀; reads = e₀; holds = ew ∙ sets-front (packsOf d (x .1)) w₀ (omega (arith, kept, numbers-long d (x .1))); bytes = bytes-of s kn; short = h }
+
+                  pub w-ready : Known s → length s ≤ 65536 → FieldReady d s 0 false false 1 0 (set out 0 i′) w₁
+                  unfolding typePart namePart
+                  w-ready kn h = done-is λ x r e₀ ei en eh el ek ew ed. record { x = x; r = r; given = top-given x r e₀ ew ek kn h; room = rw length-set (omega arith) }
+
+                  pub w-done : Known s → length s ≤ 65536 → (out′ w′ : List ℕ) (p : Position) → FieldMakes d s 0 false false 1 0 (set out 0 i′) out′ w₁ w′ p → result (Done (size + 1)) out′ w′ ≡ writtenWithin d s out w
+                  unfolding typePart namePart
+                  w-done kn h out′ w′ p f = done-is λ x r e₀ ei en eh el ek ew ed.
+                      let g = f .made x r (top-given x r e₀ ew ek kn h) in
+                      let n = numbers-long d (x .1) in
+                      let o₁ : out′ ≡ sets out 0 (i′ ∷ payloadOf d (x .1)) = g .is-out in
+                      let o : out′ ≡ encoding d (x .1) ++ drop (length (encoding d (x .1))) out = o₁ ∙ ap (λ (t : List ℕ). sets out 0 t) (sym eh) ∙ sets-front (encoding d (x .1)) out (omega arith) in
+                      let a : w′ ≡ sets w₀ 0 (sizesOf d (x .1)) = g .is-work ∙ rw ew (sets-over (packsOf d (x .1)) (sizesOf d (x .1)) w₀ 0 n) in
+                      let c : w′ ≡ sizesOf d (x .1) ++ zeros (length w - length (sizesOf d (x .1))) = a ∙ sets-front (sizesOf d (x .1)) w₀ (omega (arith, kept)) ∙ rw (ez .is, drop-zeros (length w) (length (sizesOf d (x .1))) (omega arith)) in
+                      let m : size + 1 ≡ length (encoding d (x .1)) = omega arith in
+                      rw (ed, le-ltb (length w) (length (sizesOf d (x .1))) (omega arith), le-ltb (length out) (length (encoding d (x .1))) (omega arith), le-ltb 65536 (length (encoding d (x .1))) (omega arith), m, o, c)
+
+-- ---- any list
+
+pub written-long : (s out w z : List ℕ) → 65536 < length s → AllZero w z → result (Refused ListTooLong 0) out z ≡ written s out w
+unfolding written outcome
+written-long s out w z h e = rw (lt-ltb 65536 (length s) h, e .is)
+
+pub written-short : (s out w : List ℕ) (r : Written) (out′ w′ : List ℕ) (d : ℕ) → d ≡ 32 → length s ≤ 65536 → result r out′ w′ ≡ writtenWithin d s out w → result r out′ w′ ≡ written s out w
+unfolding written outcome writtenWithin
+written-short s out w r out′ w′ d ed h e = rw (le-ltb 65536 (length s) h) (rw ed at e)

@@ -1,0 +1,30 @@
+use borrow.Author.Needs.{needs}
+use Rattle.write.proofs.leaf_end.Statement.{statement}
+use Rattle.write.proofs.leaf_end.Tie as tie
+use Rattle.write.proofs.PutLaws.{end-unknown, end-stop, end-fields, end-items, end-leaf, end-fits}
+
+ruleset laws = (end-unknown, end-stop, end-fields, end-items, end-leaf, end-fits, needs)
+
+pub leaf-end-spec : {M : Type 1} → statement M
+leaf-end-spec =
+    tie.close
+    (tie.spec
+    (λ c κs. search laws)
+    (λ c. search laws)
+    (λ c. search laws)
+    (λ c. search laws)
+    (λ c. search laws)
+    (λ c. search laws)
+    (λ c κs. search laws)
+    (λ c κs. search laws)
+    (λ c κs. search laws)
+    (λ c. search laws)
+    (λ c. search laws)
+    (λ c. search laws)
+    (λ c. search laws)
+    (λ c. search laws)
+    (λ c. search laws)
+    (λ c. search laws)
+    (λ c. search laws)
+    (λ c. search laws)
+    (λ c. search laws))

@@ -1,0 +1,4 @@
+pub mod Container
+pub mod Frames
+pub mod Passes
+pub mod Whole
