@@ -10,6 +10,7 @@ use format::Step;
 use format::Ticks;
 use format::Top;
 use format::Unsigned;
+use format::Written;
 use number::VarUInt;
 ghost use mathlib.Core.Path.{_≡_};
 ghost use Prim.Native.Nat.{_≤_};
@@ -25,6 +26,7 @@ ghost use Rattle.format.specs.Mask.{mask};
 ghost use Rattle.format.specs.Places.{checked, top, step, part, lookup};
 ghost use Rattle.format.specs.Values.{double, signed, unsigned, ticks};
 ghost use Rattle.cabi.specs.Number.{truth, afterwards, varuint};
+ghost use Rattle.cabi.specs.Sent.{sent};
 ghost use Rattle.cabi.specs.Reply.{placeNumbers, placeOf, afterOf, checkedReply, topReply, stepReply, partReply, foundReply, doubleReply, signedReply, unsignedReply, ticksReply, told};
 
 fn number_of(t: bool) -> u32
@@ -371,5 +373,31 @@ pub extern "C" fn ajuqvane_ticks(
         }
         Ticks::WrongKind => WRONG_KIND,
         Ticks::Fault(stop) => validate::stop_value(stop),
+    }
+}
+
+// The writer. 0: written, and the answer is the encoding's length. 1 to 11: refused for this reason, and the answer is the place.
+// 12: no number is lent for the answer, and nothing is touched.
+#[no_mangle]
+pub extern "C" fn ajuqvane_write(
+    list: &[u8],
+    out: &mut [u8],
+    work: &mut [u32],
+    answer: &mut [u64],
+) -> u32
+    ensures { λ r. ⌜ record { code = r; held = now (answer .exit); output = now (out .exit); work = now (work .exit) } ≡ sent (now (list .entry)) (now (out .entry)) (now (work .entry)) (now (answer .entry)) ⌝ }
+{
+    if answer.len() < 1 {
+        return 12;
+    }
+    match write::write(list, out, work) {
+        Written::Done(length) => {
+            answer[0] = length as u64;
+            0
+        }
+        Written::Refused(refusal, place) => {
+            answer[0] = place as u64;
+            write::refusal_number(refusal)
+        }
     }
 }
