@@ -125,3 +125,10 @@ one-length c t l = at (t .wrong) (t .begun) (told c)
 
 pub keeps-length : (c : ℕ) (t r : Typing) (l k : List ℕ) → afterwards r k ≡ fedOne c t l → length k ≡ length l
 keeps-length c t r l k e = ap (λ a. length (a .list)) e ∙ one-length c t l
+
+fed-length : (s : List ℕ) (t : Typing) (l : List ℕ) → length (fed s t l .list) ≡ length l
+fed-length [] t l = refl
+fed-length (c ∷ s) t l = fed-length s (fedOne c t l .typing) (fedOne c t l .list) ∙ one-length c t l
+
+pub feed-keeps : (s : List ℕ) (t r : Typing) (l k : List ℕ) → afterwards r k ≡ fed s t l → length k ≡ length l
+feed-keeps s t r l k e = ap (λ a. length (a .list)) e ∙ fed-length s t l
