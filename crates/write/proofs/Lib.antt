@@ -15,3 +15,4 @@ mod Header
 mod PutField
 mod PutLoop
 mod Top
+mod OneAnswer

@@ -4,12 +4,13 @@ use native.Mathlib.Omega.{arith}
 use native.Mathlib.Nat.{zero-add, sub-zero}
 use native.Mathlib.Numerals.{add-one}
 use mathlib.Core.Path.{_≡_, refl, sym, ap, _∙_}
-use mathlib.Core.Bool.{false}
+use mathlib.Core.Bool.{Bool, true, false, cond}
 use mathlib.Core.Option.{none}
 use mathlib.Core.List.{List, [], _∷_, _++_}
 use lib.ListN.{length, getD, drop, set, length-set, length-replicate, drop-of-length-le}
 use lib.Seq.{drop-cons, set-at, set-set, sets, sets-eq}
-use borrow.Author.Tests.{lt-ltb, le-ltb, eq-eqb, ne-eqb}
+use lib.Dec.{ltb, leb}
+use borrow.Author.Tests.{lt-ltb, le-ltb, lt-leb, le-leb, ltb-true, ltb-false, leb-true, leb-false, eq-eqb, ne-eqb}
 use Rattle.number.proofs.ReadLaws.{Known, bytes-of}
 use Rattle.format.specs.declared.Refusal.{Refusal}
 use Rattle.format.specs.declared.Refusal.the-variants.{ListEnds, NoneOpen, Complete, ListTooLong, FewWorkNumbers, EncodingTooLong}
@@ -26,7 +27,7 @@ use Rattle.write.specs.declared.Measured.the-variants as M
 use Rattle.write.specs.declared.Position.{Position}
 use Rattle.write.specs.Container.{typePart, namePart, packsOf}
 use Rattle.write.specs.Passes.{fieldMeasured, fieldWork, FieldAt, Lent, FieldGiven, FieldReady, FieldMakes}
-use Rattle.write.specs.Whole.{AllZero, result, refusalOf, writtenWithin}
+use Rattle.write.specs.Whole.{AllZero, result, decidedOf, idIn, writtenWithin}
 use Rattle.write.proofs.LoopLaws.{set-sets}
 use Rattle.write.proofs.PutLoop.{numbers-long}
 
@@ -67,12 +68,6 @@ sets-over (x ∷ a) (y ∷ b) l i e = rw (set-sets a (set l i x) i (suc i) y (om
 sets-front : (vs l : List ℕ) → length vs ≤ length l → sets l 0 vs ≡ vs ++ drop (length vs) l
 sets-front vs l h = let e : 0 + length vs ≡ length vs = omega arith in rw e at (sets-eq vs l 0 (omega arith))
 
-pub refusal-of : (m : Measured) (n : Refusal) (p : ℕ) → m ≡ M.Refused n p → Refused n p ≡ refusalOf m
-refusal-of m n p e = rw e
-
-pub refusal-read : (m : Measured) (n i z t k : ℕ) → m ≡ M.Read n i z t k → Done z ≡ refusalOf m
-refusal-read m n i z t k e = rw e
-
 -- ---- at the start
 
 pub lent-start : (s names : List ℕ) → Known s → length s ≤ 65536 → length s ≤ 3 * length names → Lent s names 0 0 0 0
@@ -108,8 +103,8 @@ module _ (d : ℕ) (s out w : List ℕ) where
           go (x ∷ s) b i = rw (ne-eqb x 0 b)
 
       module _ (names names′ w₀ w₁ : List ℕ) (m : Measured) (y : FieldAt d s 0 false 0 0 0 names names′ w₀ w₁ m) where
-        pub w-bad : (a : Refusal) (q : ℕ) → m ≡ M.Refused a q → (v : Written) → v ≡ refusalOf m → (z : List ℕ) → AllZero w z → result v out z ≡ writtenWithin d s out w
-        w-bad a q e v ev z ez = rw (ev, e, ez .is, top-is) (go (readFrames d none s) (sym e ∙ y .answer))
+        case-bad : (a : Refusal) (q : ℕ) → m ≡ M.Refused a q → (z : List ℕ) → AllZero w z → result (Refused a q) out z ≡ writtenWithin d s out w
+        case-bad a q e z ez = rw (ez .is, top-is) (go (readFrames d none s) (sym e ∙ y .answer))
           where
             go : (o : Frames (List ℕ × Tree d)) → M.Refused a q ≡ fieldMeasured d (length s) false 0 0 o → result (Refused a q) out (zeros (length w)) ≡ resultOf (outcomeAfter d (length out) (length w) s (next o only)) out w
             go (refused n r) e = let e₁ : a ≡ n = cc in let e₂ : q ≡ length s - length r = cc in rw (e₁, e₂)
@@ -127,8 +122,8 @@ module _ (d : ℕ) (s out w : List ℕ) where
                   let y : size ≡ 0 + length (payloadOf d (x .1)) = cc in
                   f x r e₀ (cc) (cc) (omega arith) (omega arith) e₂
 
-          pub w-after : next′ < length s → (z : List ℕ) → AllZero w z → result (Refused Complete next′) out z ≡ writtenWithin d s out w
-          w-after l z ez = got-case λ x r e₀ en ei el ek ew. rw (ez .is, top-is, e₀) (go x r en)
+          case-after : next′ < length s → (z : List ℕ) → AllZero w z → result (Refused Complete next′) out z ≡ writtenWithin d s out w
+          case-after l z ez = got-case λ x r e₀ en ei el ek ew. rw (ez .is, top-is, e₀) (go x r en)
             where
               go : (x : List ℕ × Tree d) (r : List ℕ) → next′ ≡ length s - length r → result (Refused Complete next′) out (zeros (length w)) ≡ resultOf (outcomeAfter d (length out) (length w) s (only x r)) out w
               go x [] en = absurd (omega arith)
@@ -148,16 +143,16 @@ module _ (d : ℕ) (s out w : List ℕ) where
                 go x [] en = refl
                 go x (c ∷ r) en = absurd (omega arith)
 
-            pub w-few : length w < k → (z : List ℕ) → AllZero w z → result (Refused FewWorkNumbers 0) out z ≡ writtenWithin d s out w
-            w-few q z ez = done-is λ x r e₀ ei en eh el ek ew ed. rw (ed, ez .is, lt-ltb (length w) (length (sizesOf d (x .1))) (omega arith))
+            case-few : length w < k → (z : List ℕ) → AllZero w z → result (Refused FewWorkNumbers 0) out z ≡ writtenWithin d s out w
+            case-few q z ez = done-is λ x r e₀ ei en eh el ek ew ed. rw (ed, ez .is, lt-ltb (length w) (length (sizesOf d (x .1))) (omega arith))
 
             module _ (q : k ≤ length w) where
-              pub w-small : length out ≤ size → (z : List ℕ) → AllZero w z → result (Refused EncodingTooLong 0) out z ≡ writtenWithin d s out w
-              w-small u z ez = done-is λ x r e₀ ei en eh el ek ew ed. rw (ed, ez .is, le-ltb (length w) (length (sizesOf d (x .1))) (omega arith), lt-ltb (length out) (length (encoding d (x .1))) (omega arith))
+              case-small : length out ≤ size → (z : List ℕ) → AllZero w z → result (Refused EncodingTooLong 0) out z ≡ writtenWithin d s out w
+              case-small u z ez = done-is λ x r e₀ ei en eh el ek ew ed. rw (ed, ez .is, le-ltb (length w) (length (sizesOf d (x .1))) (omega arith), lt-ltb (length out) (length (encoding d (x .1))) (omega arith))
 
               module _ (u : size < length out) where
-                pub w-big : 65536 ≤ size → (z : List ℕ) → AllZero w z → result (Refused EncodingTooLong 0) out z ≡ writtenWithin d s out w
-                w-big v z ez = done-is λ x r e₀ ei en eh el ek ew ed.
+                case-big : 65536 ≤ size → (z : List ℕ) → AllZero w z → result (Refused EncodingTooLong 0) out z ≡ writtenWithin d s out w
+                case-big v z ez = done-is λ x r e₀ ei en eh el ek ew ed.
                     rw (ed, ez .is, le-ltb (length w) (length (sizesOf d (x .1))) (omega arith), le-ltb (length out) (length (encoding d (x .1))) (omega arith), lt-ltb 65536 (length (encoding d (x .1))) (omega arith))
 
                 module _ (v : size < 65536) (ez : AllZero w w₀) where
@@ -167,13 +162,13 @@ module _ (d : ℕ) (s out w : List ℕ) where
                   top-given : (x : List ℕ × Tree d) (r : List ℕ) → readFrames d none s ≡ framed x r → w₁ ≡ sets w₀ 0 (packsOf d (x .1)) → k ≡ length (sizesOf d (x .1)) → Known s → length s ≤ 65536 → FieldGiven d s 0 false 0 w₁ x r
                   top-given x r e₀ ew ek kn h = record { used = []; more = drop (length (packsOf d (x .1))) w₀; reads = e₀; holds = ew ∙ sets-front (packsOf d (x .1)) w₀ (omega (arith, kept, numbers-long d (x .1))); bytes = bytes-of s kn; short = h }
 
-                  pub w-ready : Known s → length s ≤ 65536 → FieldReady d s 0 false false 1 0 (set out 0 i′) w₁
+                  case-ready : Known s → length s ≤ 65536 → FieldReady d s 0 false false 1 0 (set out 0 i′) w₁
                   unfolding typePart namePart
-                  w-ready kn h = done-is λ x r e₀ ei en eh el ek ew ed. record { x = x; r = r; given = top-given x r e₀ ew ek kn h; room = rw length-set (omega arith) }
+                  case-ready kn h = done-is λ x r e₀ ei en eh el ek ew ed. record { x = x; r = r; given = top-given x r e₀ ew ek kn h; room = rw length-set (omega arith) }
 
-                  pub w-done : Known s → length s ≤ 65536 → (out′ w′ : List ℕ) (p : Position) → FieldMakes d s 0 false false 1 0 (set out 0 i′) out′ w₁ w′ p → result (Done (size + 1)) out′ w′ ≡ writtenWithin d s out w
+                  case-done : Known s → length s ≤ 65536 → (out′ w′ : List ℕ) (p : Position) → FieldMakes d s 0 false false 1 0 (set out 0 i′) out′ w₁ w′ p → result (Done (size + 1)) out′ w′ ≡ writtenWithin d s out w
                   unfolding typePart namePart
-                  w-done kn h out′ w′ p f = done-is λ x r e₀ ei en eh el ek ew ed.
+                  case-done kn h out′ w′ p f = done-is λ x r e₀ ei en eh el ek ew ed.
                       let g = f .made x r (top-given x r e₀ ew ek kn h) in
                       let n = numbers-long d (x .1) in
                       let o₁ : out′ ≡ sets out 0 (i′ ∷ payloadOf d (x .1)) = g .is-out in
@@ -182,6 +177,82 @@ module _ (d : ℕ) (s out w : List ℕ) where
                       let c : w′ ≡ sizesOf d (x .1) ++ zeros (length w - length (sizesOf d (x .1))) = a ∙ sets-front (sizesOf d (x .1)) w₀ (omega (arith, kept)) ∙ rw (ez .is, drop-zeros (length w) (length (sizesOf d (x .1))) (omega arith)) in
                       let m : size + 1 ≡ length (encoding d (x .1)) = omega arith in
                       rw (ed, le-ltb (length w) (length (sizesOf d (x .1))) (omega arith), le-ltb (length out) (length (encoding d (x .1))) (omega arith), le-ltb 65536 (length (encoding d (x .1))) (omega arith), m, o, c)
+
+        -- ---- what is decided of the measured field
+
+        module _ (v : Written) (numbers : ℕ) (en : numbers ≡ length w) (ev : v ≡ decidedOf m (length s) (length out) numbers) where
+          pub w-refused : (n : Refusal) (p : ℕ) → v ≡ Refused n p → (z : List ℕ) → AllZero w z → result (Refused n p) out z ≡ writtenWithin d s out w
+          w-refused n p e z ez = go m refl (sym e ∙ ev)
+            where
+              by : (x j c t k : ℕ) → m ≡ M.Read x j c t k → (f g h o : Bool) → ltb x (length s) ≡ f → ltb numbers k ≡ g → leb (length out) c ≡ h → leb 65536 c ≡ o
+                  → Refused n p ≡ cond f (Refused Complete x) (cond g (Refused FewWorkNumbers 0) (cond h (Refused EncodingTooLong 0) (cond o (Refused EncodingTooLong 0) (Done (c + 1)))))
+                  → result (Refused n p) out z ≡ writtenWithin d s out w
+              by x j c t k em true g h o ef eg eh eo q = rw q (case-after x j c t k em (ltb-true x (length s) ef) z ez)
+              by x j c t k em false true h o ef eg eh eo q = rw q (case-few x j c t k em (ltb-false x (length s) ef) (rw en at (ltb-true numbers k eg)) z ez)
+              by x j c t k em false false true o ef eg eh eo q = rw q (case-small x j c t k em (ltb-false x (length s) ef) (rw en at (ltb-false numbers k eg)) (leb-true (length out) c eh) z ez)
+              by x j c t k em false false false true ef eg eh eo q = rw q (case-big x j c t k em (ltb-false x (length s) ef) (rw en at (ltb-false numbers k eg)) (leb-false (length out) c eh) (leb-true 65536 c eo) z ez)
+              by x j c t k em false false false false ef eg eh eo q = absurd (let y : _≡_ {A = ℕ} 0 1 = cc in omega arith)
+
+              go : (a : Measured) → m ≡ a → Refused n p ≡ decidedOf a (length s) (length out) numbers → result (Refused n p) out z ≡ writtenWithin d s out w
+              go (M.Refused a q) em h = rw h (case-bad a q em z ez)
+              go (M.Read x j c t k) em h = by x j c t k em (ltb x (length s)) (ltb numbers k) (leb (length out) c) (leb 65536 c) refl refl refl refl h
+
+          module _ (n : ℕ) (e : v ≡ Done n) where
+            done-case : {X : Type 0} → ((x j c t k : ℕ) → m ≡ M.Read x j c t k → length s ≤ x → k ≤ length w → c < length out → c < 65536 → n ≡ c + 1 → X) → X
+            done-case {X} f = go m refl (sym e ∙ ev)
+              where
+                by : (x j c t k : ℕ) → m ≡ M.Read x j c t k → (a b h o : Bool) → ltb x (length s) ≡ a → ltb numbers k ≡ b → leb (length out) c ≡ h → leb 65536 c ≡ o
+                    → Done n ≡ cond a (Refused Complete x) (cond b (Refused FewWorkNumbers 0) (cond h (Refused EncodingTooLong 0) (cond o (Refused EncodingTooLong 0) (Done (c + 1))))) → X
+                by x j c t k em true b h o ef eg eh eo q = absurd (let y : _≡_ {A = ℕ} 0 1 = cc in omega arith)
+                by x j c t k em false true h o ef eg eh eo q = absurd (let y : _≡_ {A = ℕ} 0 1 = cc in omega arith)
+                by x j c t k em false false true o ef eg eh eo q = absurd (let y : _≡_ {A = ℕ} 0 1 = cc in omega arith)
+                by x j c t k em false false false true ef eg eh eo q = absurd (let y : _≡_ {A = ℕ} 0 1 = cc in omega arith)
+                by x j c t k em false false false false ef eg eh eo q = f x j c t k em (ltb-false x (length s) ef) (rw en at (ltb-false numbers k eg)) (leb-false (length out) c eh) (leb-false 65536 c eo) (cc)
+
+                go : (a : Measured) → m ≡ a → Done n ≡ decidedOf a (length s) (length out) numbers → X
+                go (M.Refused a q) em h = absurd (let y : _≡_ {A = ℕ} 0 1 = cc in omega arith)
+                go (M.Read x j c t k) em h = by x j c t k em (ltb x (length s)) (ltb numbers k) (leb (length out) c) (leb 65536 c) refl refl refl refl h
+
+            pub w-room : 0 < length out
+            w-room = done-case λ x j c t k em l q u o en. omega arith
+
+            module _ (ez : AllZero w w₀) (kn : Known s) (h : length s ≤ 65536) (j : ℕ) (ej : j ≡ idIn m) where
+              pub w-ready : FieldReady d s 0 false false 1 0 (set out 0 j) w₁
+              w-ready = done-case λ x i c t k em l q u o ec. let z : j ≡ i = ej ∙ ap idIn em in rw z (case-ready x i c t k em l q u o ez kn h)
+
+              pub w-done : (out′ w′ : List ℕ) (p : Position) → FieldMakes d s 0 false false 1 0 (set out 0 j) out′ w₁ w′ p → result (Done n) out′ w′ ≡ writtenWithin d s out w
+              w-done out′ w′ p f = done-case λ x i c t k em l q u o ec. let z : j ≡ i = ej ∙ ap idIn em in rw ec (case-done x i c t k em l q u o ez kn h out′ w′ p (rw z at f))
+
+-- ---- the code of the decision
+
+module _ (m : Measured) (total room numbers : ℕ) where
+  pub decided-refused : (n : Refusal) (p : ℕ) → m ≡ M.Refused n p → Refused n p ≡ decidedOf m total room numbers
+  decided-refused n p e = rw e
+
+  module _ (x i z t k : ℕ) (e : m ≡ M.Read x i z t k) where
+    pub decided-after : x < total → Refused Complete x ≡ decidedOf m total room numbers
+    decided-after h = rw (e, lt-ltb x total h)
+
+    module _ (l : total ≤ x) where
+      pub decided-few : numbers < k → Refused FewWorkNumbers 0 ≡ decidedOf m total room numbers
+      decided-few h = rw (e, le-ltb x total l, lt-ltb numbers k h)
+
+      module _ (q : k ≤ numbers) where
+        pub decided-small : room ≤ z → Refused EncodingTooLong 0 ≡ decidedOf m total room numbers
+        decided-small h = rw (e, le-ltb x total l, le-ltb numbers k q, le-leb room z h)
+
+        module _ (u : z < room) where
+          pub decided-big : 65536 ≤ z → Refused EncodingTooLong 0 ≡ decidedOf m total room numbers
+          decided-big h = rw (e, le-ltb x total l, le-ltb numbers k q, lt-leb room z u, le-leb 65536 z h)
+
+          pub decided-done : z < 65536 → Done (z + 1) ≡ decidedOf m total room numbers
+          decided-done h = rw (e, le-ltb x total l, le-ltb numbers k q, lt-leb room z u, lt-leb 65536 z h)
+
+    pub id-read : i ≡ idIn m
+    id-read = rw e
+
+  pub id-refused : (n : Refusal) (p : ℕ) → m ≡ M.Refused n p → 0 ≡ idIn m
+  id-refused n p e = rw e
 
 -- ---- any list
 

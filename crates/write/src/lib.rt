@@ -24,7 +24,7 @@ ghost use Rattle.format.specs.Writer.{written, refusalNumber};
 ghost use Rattle.write.specs.Container.{join, uniform, countPart, containerId, sizeBy, packed, typePart};
 ghost use Rattle.write.specs.Frames.{noFaults, allModes, noModes, isLong, isLow, isBlank, isNotText, isWide, writable, nameAt, usedAt, Stack, NamedAt, FrameAt, IsLeaf, leafFrameAt, startAt, bitsAt, finalId, endAt};
 ghost use Rattle.write.specs.Passes.{leafMeasured, LeafSmall, FieldAt, ContentsAt, Lent, LeafReady, LeafMakes, CanOpen, HasOpened, FieldReady, FieldMakes, ContentsReady, ContentsMakes};
-ghost use Rattle.write.specs.Whole.{AllZero, result, refusalOf, writtenWithin};
+ghost use Rattle.write.specs.Whole.{AllZero, result, decidedOf, idIn, writtenWithin};
 
 // ---- what format's reading of a leaf or a name found
 
@@ -168,6 +168,7 @@ pub enum Frame {
     },
 }
 
+// Behind the kind: the name, which is kept beside those of its object.
 fn named_at(list: &[u8], at: usize, kind: Kind, names: &mut [u32], base: usize, top: usize) -> Frame
     requires { ⌜ (0 < at) × (at ≤ length (now list)) × Bytes (now list) × (length (now list) ≤ 65536) × (base ≤ top) × (top < length (now names)) × Stack (now list) (now names) top ⌝ }
     ensures { λ r. ⌜ NamedAt (now (list .entry)) at kind base top (now (names .entry)) (now (names .exit)) r ⌝ }
@@ -223,6 +224,7 @@ pub enum LeafFrame {
     Read { end: usize, id: u8, size: usize },
 }
 
+// The leaf of a kind at a position. A Float64 that Float32 holds counts as the Float32 that it becomes.
 fn leaf_at(list: &[u8], at: usize, kind: Kind) -> LeafFrame
     requires { ⌜ (at ≤ length (now list)) × (length (now list) ≤ 65536) × Bytes (now list) × IsLeaf (payload kind) ⌝ }
     ensures { λ r. ⌜ r ≡ leafFrameAt kind (now (list .entry)) at ⌝ }
@@ -270,6 +272,7 @@ fn leaf_at(list: &[u8], at: usize, kind: Kind) -> LeafFrame
 
 // ---- a container, by the ID that its fields share: 0 if it has none, 255 if their IDs differ
 
+// One field more.
 fn join(shared: u8, id: u8) -> u8
     ensures { λ r. ⌜ r ≡ join shared id ⌝ }
 {
@@ -358,6 +361,7 @@ fn wide(b: u8) -> usize
     b as usize
 }
 
+// A container whose number is not lent is only counted.
 fn store(work: &mut [u32], k: usize, x: u32)
     ensures { λ r. ⌜ now (work .exit) ≡ set (now (work .entry)) k x ⌝ }
 {
@@ -397,6 +401,7 @@ fn measured_leaf(leaf: LeafFrame, at: usize, before: usize, top: usize, opened: 
     }
 }
 
+// The field at a position: it is checked, and what it takes as encoded is settled. Its containers' numbers go from k on.
 fn measure_field(
     list: &[u8],
     at: usize,
@@ -667,6 +672,7 @@ fn leaf_end(list: &[u8], at: usize, b: u8) -> usize
     }
 }
 
+// A Float64: narrowed where Float32 holds it.
 fn put_double(list: &[u8], at: usize, out: &mut [u8], to: usize, k: usize) -> Position
     requires { ⌜ LeafReady (now list) at 11 to (now out) ⌝ }
     ensures { λ r. ⌜ LeafMakes (now (list .entry)) at 11 to k (now (out .entry)) (now (out .exit)) r ⌝ }
@@ -743,6 +749,7 @@ fn put_count(out: &mut [u8], at: usize, named: bool, count: usize)
     put_number(out, at, count);
 }
 
+// The field at a position, written at `to`. Its containers' numbers stand from k on, and are sizes afterwards.
 fn put_field(
     list: &[u8],
     at: usize,
@@ -770,6 +777,7 @@ fn put_field(
     put_leaf(list, start, b, out, e, k)
 }
 
+// A container's payload. The count is known when the close is met, and goes into the room that was left for it.
 fn put_contents(
     list: &[u8],
     at: usize,
@@ -824,18 +832,49 @@ fn clear(work: &mut [u32])
     }
 }
 
-fn refused(measured: Measured) -> Written
-    ensures { λ r. ⌜ r ≡ refusalOf measured ⌝ }
+// What the measured field comes to: its own refusal; those that only the whole list shows, or the encoding's length.
+fn decided(measured: Measured, list: usize, room: usize, numbers: usize) -> Written
+    ensures { λ r. ⌜ r ≡ decidedOf measured list room numbers ⌝ }
 {
     match measured {
         Measured::Refused(refusal, place) => Written::Refused(refusal, place),
         Measured::Read {
-            next: _,
+            next,
             id: _,
             size,
             top: _,
+            opened,
+        } => {
+            if next < list {
+                return Written::Refused(Refusal::Complete, next);
+            }
+            if numbers < opened {
+                return Written::Refused(Refusal::FewWorkNumbers, 0);
+            }
+            if room <= size {
+                return Written::Refused(Refusal::EncodingTooLong, 0);
+            }
+            if 65536 <= size {
+                return Written::Refused(Refusal::EncodingTooLong, 0);
+            }
+            Written::Done(size + 1)
+        }
+    }
+}
+
+// The ID of the top field.
+fn id_in(measured: Measured) -> u8
+    ensures { λ r. ⌜ r ≡ idIn measured ⌝ }
+{
+    match measured {
+        Measured::Refused(refusal, place) => 0,
+        Measured::Read {
+            next: _,
+            id,
+            size: _,
+            top: _,
             opened: _,
-        } => Written::Done(size),
+        } => id,
     }
 }
 
@@ -858,36 +897,18 @@ fn write_within(
         return Written::Refused(Refusal::NoneOpen, 0);
     }
     let measured = measure_field(list, 0, false, names, 0, 0, work, 0, left);
-    let Measured::Read {
-        next,
-        id,
-        size,
-        top,
-        opened,
-    } = measured
-    else {
-        clear(work);
-        return refused(measured);
-    };
-    if next < list.len() {
-        clear(work);
-        return Written::Refused(Refusal::Complete, next);
+    let answer = decided(measured, list.len(), out.len(), work.len());
+    match answer {
+        Written::Refused(refusal, place) => {
+            clear(work);
+            Written::Refused(refusal, place)
+        }
+        Written::Done(length) => {
+            out[0] = id_in(measured);
+            put_field(list, 0, false, false, out, 1, work, 0, left);
+            Written::Done(length)
+        }
     }
-    if work.len() < opened {
-        clear(work);
-        return Written::Refused(Refusal::FewWorkNumbers, 0);
-    }
-    if out.len() <= size {
-        clear(work);
-        return Written::Refused(Refusal::EncodingTooLong, 0);
-    }
-    if 65536 <= size {
-        clear(work);
-        return Written::Refused(Refusal::EncodingTooLong, 0);
-    }
-    out[0] = id;
-    put_field(list, 0, false, false, out, 1, work, 0, left);
-    Written::Done(size + 1)
 }
 
 // The writer. A name takes three bytes of the list at least, so that a short list needs little room for names.
