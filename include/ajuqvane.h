@@ -131,6 +131,40 @@ uint32_t ajuqvane_unsigned(const uint8_t *payload, size_t length, uint8_t kind, 
 uint32_t ajuqvane_ticks(const uint8_t *payload, size_t length, uint8_t kind, size_t start, size_t end, uint32_t depth,
                         uint64_t *answer, size_t count);
 
+/* The writer: the encoding of a list of frames, which stand one after another. A frame is a kind (an ID without flags); inside
+ * an object a VarUInt, the name's length, and the name; and then, if it is no container, the payload. 02 opens an object and 04
+ * an array; 00 closes the innermost and is a whole frame. 03 and 05 are no kinds here: the writer finds out what has to be
+ * uniform, and which Float64 is written as a Float32.
+ *
+ * The encoding goes to out. work is lent one number for each container, answer one at least; work_count and count are how many
+ * they point to. What is lent to be written overlaps nothing else.
+ * 0: it is written. answer[0] is its length; the bytes of out after it are as they were. The work numbers are the sizes of the
+ *    containers as written, in order of opening, and 0 after these.
+ * 1 to 11: it is refused. answer[0] is a place in the list: where the frame starts, unless another is said. All bytes of out are
+ *    as they were, and all work numbers are 0.
+ * 12: no number is lent for the answer, whatever else is wrong. Nothing is touched.
+ * Numbers of answer after the first are as they were.
+ *
+ * The refusals in the order in which they are looked for; 8 to 4, and 2 and 5 again, at each frame in turn:
+ *   9 the list has more than 65536 bytes; place 0
+ *   8 a frame after the top field is complete
+ *   7 a 00 where no container is open
+ *   6 a field at depth 33
+ *   2 an unknown kind; then a name that is cut, or whose length is longer than it has to be
+ *   3 an empty field name
+ *   5 a field name that is not UTF-8
+ *   4 a field name that the object has already
+ *   2 a payload that is cut, a custom's id or name that passes its size, a VarUInt that is longer than it has to be, or an integer
+ *     below the least signed 64-bit integer
+ *   5 a string or a custom's name that is not UTF-8
+ *   1 the list ends with no field, or with a container open; place the list's length
+ *   10 fewer work numbers than containers; place 0
+ *   11 an encoding longer than out, or than 65536 bytes; place 0
+ * The time grows with the square of the number of names in one object: about a second for the worst 65536 bytes. The call takes
+ * some 110 KiB of the stack. */
+uint32_t ajuqvane_write(const uint8_t *list, size_t list_length, uint8_t *out, size_t out_length, uint32_t *work,
+                        size_t work_count, uint64_t *answer, size_t count);
+
 #ifdef __cplusplus
 }
 #endif

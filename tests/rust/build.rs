@@ -4,7 +4,7 @@ use std::path::PathBuf;
 use std::process::Command;
 
 /// The calls of the library, without their prefix.
-const CALLS: [&str; 15] = [
+const CALLS: [&str; 16] = [
     "validate",
     "varuint",
     "is_text",
@@ -20,6 +20,7 @@ const CALLS: [&str; 15] = [
     "signed",
     "unsigned",
     "ticks",
+    "write",
 ];
 
 fn main() {

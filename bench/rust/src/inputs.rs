@@ -1,10 +1,10 @@
 //! What is measured on: numbers, texts, patterns and payloads, the same in every run.
 
-use ajuqvane_tests::generate::Random;
+use ajuqvane_tests::generate::{lists, Random};
 use ajuqvane_tests::independent::encode::encode;
 use ajuqvane_tests::independent::kinds::*;
 use ajuqvane_tests::independent::number::push_varuint;
-use ajuqvane_tests::independent::tree::{Float, Tree};
+use ajuqvane_tests::independent::tree::{tree_of, Float, Tree};
 use ajuqvane_tests::independent::LENGTH_LIMIT;
 
 const SEED: u64 = 17;
@@ -67,6 +67,16 @@ fn float32(random: &mut Random) -> Tree {
 
 /// A manifest of lasts: nested objects, texts, attachments, measures; some 5,000 fields in about 64 KiB.
 pub fn manifest() -> Vec<u8> {
+    manifest_in(|tree| encode(tree).bytes)
+}
+
+/// The write list of such a manifest, in about 64 KiB too.
+pub fn manifest_list() -> Vec<u8> {
+    manifest_in(list_of)
+}
+
+/// As many lasts as fit in this form.
+fn manifest_in(form: impl Fn(&Tree) -> Vec<u8>) -> Vec<u8> {
     let mut random = Random::new(SEED, 3);
     let makers = ["Anna Hofer", "J. Beck", "Søren Lind", "Łucja Maj"];
     let mut lasts = Vec::new();
@@ -101,7 +111,7 @@ pub fn manifest() -> Vec<u8> {
             (name("vault"), Tree::String(name("Leisten und Maße"))),
             (name("lasts"), Tree::Array(lasts.clone())),
         ]);
-        let bytes = encode(&tree).bytes;
+        let bytes = form(&tree);
         if bytes.len() > LENGTH_LIMIT - 256 {
             return bytes;
         }
@@ -161,4 +171,26 @@ pub fn deep() -> Vec<u8> {
             return bytes;
         }
     }
+}
+
+/// The write list of a tree; of its floats that Float32 holds, half are Float64 there.
+fn list_of(tree: &Tree) -> Vec<u8> {
+    lists::list_of(&lists::frames(&mut Random::new(SEED, 5), tree))
+}
+
+/// The write list of one array of integers of one and two bytes.
+pub fn integer_list(count: usize) -> Vec<u8> {
+    let mut random = Random::new(SEED, 6);
+    list_of(&Tree::Array((0..count).map(|_| integer(random.below(256))).collect()))
+}
+
+/// The write list of one object of so many names of 13 bytes, 16 bytes a frame.
+pub fn name_list(count: usize) -> Vec<u8> {
+    let fields = (0..count).map(|index| (name(&format!("measuring{index:04}")), integer(index % 100)));
+    list_of(&Tree::Object(fields.collect()))
+}
+
+/// The write list of the array of chains.
+pub fn deep_list() -> Vec<u8> {
+    tree_of(&deep()).map_or_else(Vec::new, |tree| list_of(&tree))
 }

@@ -8,11 +8,14 @@ mod inputs;
 mod plain;
 mod reader;
 mod validator;
+mod writer;
 
 use std::process::ExitCode;
 use std::rc::Rc;
 
+use ajuqvane_tests::independent::encode::encode;
 use ajuqvane_tests::independent::places::Place;
+use ajuqvane_tests::independent::write::tree_of_list;
 use ajuqvane_tests::library;
 use harness::{measure, Measured, Row};
 
@@ -99,6 +102,14 @@ fn rows() -> Vec<Row> {
             rows.push(lookup_row(text, count));
         }
         rows.push(floats_row());
+    }
+    if library::HAS_WRITE {
+        rows.push(write_row("manifest, 64 KiB", inputs::manifest_list()));
+        rows.push(write_row("20,000 integers in an array", inputs::integer_list(20_000)));
+        rows.push(write_row("depth 32, 64 KiB", inputs::deep_list()));
+        rows.push(write_row("1,000 names, 16 KiB", inputs::name_list(1_000)));
+        rows.push(write_row("2,000 names, 32 KiB", inputs::name_list(2_000)));
+        rows.push(write_row("4,000 names, 64 KiB", inputs::name_list(4_000)));
     }
     rows
 }
@@ -288,6 +299,41 @@ fn floats_row() -> Row {
                 last = Some(field.end);
             }
             sum
+        }),
+        same: true,
+    }
+}
+
+/// What a write's row says of its output: the length, the last byte and the first work number.
+fn mixed_write(length: usize, output: &[u8], work: &[u32]) -> u64 {
+    let last = length.checked_sub(1).and_then(|last| output.get(last)).copied().unwrap_or(0);
+    (length as u64) << 40 ^ u64::from(last) << 32 ^ u64::from(work.first().copied().unwrap_or(0))
+}
+
+/// The encoding of a list, with 64 KiB of output and as many work numbers as there are containers; each side has its own.
+fn write_row(name: &str, list: Vec<u8>) -> Row {
+    let list: Rc<[u8]> = list.into();
+    let our_list = list.clone();
+    let containers = tree_of_list(&list).map_or(0, |tree| encode(&tree).sizes.len());
+    let (mut our_output, mut our_work) = (vec![0; WHOLE], vec![0; containers]);
+    let (mut output, mut work) = (our_output.clone(), our_work.clone());
+    let mut answer = [0; 1];
+    let ours = library::write(&list, &mut our_output, &mut our_work, &mut answer);
+    let rust = plain::write(&list, &mut output, &mut work);
+    let same = ours == Some(0) && rust == Ok(answer[0] as usize) && our_output == output && our_work == work;
+    assert!(same, "write: {name}: {ours:?} {answer:?}, Rust {rust:?}");
+    Row {
+        name: format!("write: {name}"),
+        ours: Box::new(move || {
+            let mut answer = [0; 1];
+            match library::write(&our_list, &mut our_output, &mut our_work, &mut answer) {
+                Some(0) => mixed_write(answer[0] as usize, &our_output, &our_work),
+                _ => u64::MAX,
+            }
+        }),
+        rust: Box::new(move || match plain::write(&list, &mut output, &mut work) {
+            Ok(length) => mixed_write(length, &output, &work),
+            Err(_) => u64::MAX - 1,
         }),
         same: true,
     }

@@ -4,6 +4,7 @@ use ajuqvane_tests::independent::number;
 
 use crate::reader::{self, Place};
 use crate::validator;
+use crate::writer::{self, Refused};
 
 /// Value, bytes taken, whether minimal.
 #[inline(never)]
@@ -49,6 +50,11 @@ pub fn lookup(payload: &[u8], place: Place, name: &[u8]) -> Result<Place, u32> {
 #[inline(never)]
 pub fn double(payload: &[u8], place: Place) -> Result<u64, u32> {
     reader::double(payload, place)
+}
+
+#[inline(never)]
+pub fn write(list: &[u8], output: &mut [u8], work: &mut [u32]) -> Result<usize, Refused> {
+    writer::write(list, output, work)
 }
 
 #[inline(never)]

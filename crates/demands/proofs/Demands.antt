@@ -1,10 +1,10 @@
 -- What the owner demands, sentence by sentence, each as a theorem about the definitions of document 01. The proofs are citations: what stands behind them
--- is in crates/format/proofs. What the public calls have to do with it, their contracts say: each is one equation with a definition named here.
+-- is in crates/format/proofs, crates/read/proofs and crates/write/proofs. What the public calls have to do with it, their contracts say: each is one equation with a definition named here.
 use Prim.Native.Nat.{ℕ, suc, _+_, _≤_, _<_}
 use mathlib.Core.Path.{_≡_}
 use mathlib.Core.Logic.{_↔_, _⊎_}
 use mathlib.Core.Option.{some}
-use mathlib.Core.List.{List, [], map}
+use mathlib.Core.List.{List, [], _++_, map}
 use lib.ListN.{length}
 use lib.Seq.{slice}
 use Rattle.number.specs.BigEndian.{All, Bytes}
@@ -14,19 +14,27 @@ use Rattle.format.specs.declared.Place.{Place}
 use Rattle.format.specs.declared.After.{After}
 use Rattle.format.specs.declared.Step.the-variants as S
 use Rattle.format.specs.declared.Found.the-variants as F
-use Rattle.format.specs.Limits.{depthLimit}
+use Rattle.format.specs.declared.Refusal.{Refusal}
+use Rattle.format.specs.declared.Written.the-variants.{Done, Refused}
+use Rattle.format.specs.Limits.{depthLimit, lengthLimit}
 use Rattle.format.specs.Parse.{Flaw}
 use Rattle.format.specs.Tree.{Tree, object}
-use Rattle.format.specs.Encoding.{concat, encoding, WithinLimits}
+use Rattle.format.specs.Encoding.{concat, encoding, sizesOf, WithinLimits}
 use Rattle.format.specs.Reader.{Standing, Named, Layout, tree, treeOf}
 use Rattle.format.specs.Mask.{stopValue, flaws, sumOf, paddingOf, mask, boundsOnly, strict}
 use Rattle.format.specs.Places.{lookup}
+use Rattle.format.specs.Writer.{zeros, written}
 use Rattle.format.specs.Places as places
 use Rattle.format.specs.Show.{ShownFields, Shown, ShownPayload}
 use Rattle.format.specs.Stepping.{fieldAt, placeAt, Agree, stepping, events, ranges, payloadRange, Apart, IsFirst}
 use Rattle.format.proofs.Spelling as spelling
 use Rattle.format.proofs.Walk as walk
 use Rattle.read.proofs.AnyStep.{Stepped}
+use Rattle.write.specs.Describe.{listOf}
+use Rattle.write.proofs.Answers.{Wrote}
+use Rattle.write.proofs.Answers as answers
+use Rattle.write.proofs.Writable.{success}
+use Rattle.write.proofs.Writable as writable
 use Rattle.read.proofs.AnyStep as steps
 
 -- ---- 1. "Whatever bytes, modes, place or write list arrive, every public call ends, reads only what it was lent, and refuses what is bad by itself."
@@ -39,8 +47,14 @@ use Rattle.read.proofs.AnyStep as steps
 --   read::part, view      r ≡ part payload place, now r ≡ view payload place
 --   read::lookup          r ≡ lookup payload object name
 --   read::double, signed, unsigned, ticks                         r ≡ double payload place, ...
--- "A refused read writes nothing": none of these calls is lent anything to write to. The calls for C write their answer's numbers only
+--   write::write          answer, output, work ≡ written list output work          crates/write/src/lib.rt
+-- "A refused read writes nothing": none of the reading calls is lent anything to write to. The calls for C write their answer's numbers only
 -- (crates/cabi/specs/Reply.antt, `told`).
+
+-- 1. "a refused write gives its number and place, leaves the output untouched and zeroes the work numbers."
+pub refused-leaves : (list output work : List ℕ) (r : Refusal) (p : ℕ) → written list output work .answer ≡ Refused r p
+    → (written list output work .output ≡ output) × (written list output work .work ≡ zeros (length work))
+refused-leaves = answers.refused-leaves
 
 -- ---- 2. "For every input and mode set the mask is the one that document 01 derives."
 -- The contract of `validate` is the definition `mask`, of which these hold: one stopping fault, whatever is asked; or each flaw met once, where its mode is asked
@@ -57,6 +71,22 @@ every-field-shown = walk.every-field-shown
 pub every-field-reached : (payload : List ℕ) (shown : ShownPayload payload) (path : List ℕ)
     → Agree payload (fieldAt path depthLimit ([], (shown .kind, shown .layout))) (placeAt path payload ([], shown .place))
 every-field-reached = walk.every-field-reached
+
+-- 2. "From every write list that is not refused the writer makes the encoding of the described tree, and strict validation passes it."
+-- `Wrote` says: the tree that the list describes, that it is within the limits, that the output begins with its encoding and is untouched behind it, that the work
+-- numbers are the containers' sizes in order of opening and zero behind them, and that the encoding has strict mask 0 and is read as that tree
+pub written-is-encoding : (list output work : List ℕ) (n : ℕ) → Bytes list → written list output work .answer ≡ Done n → Wrote list output work n (written list output work)
+written-is-encoding = answers.written-is-encoding
+
+-- 2. every tree within the limits is described by a list, `listOf`, which is written where it is no longer than a list may be and there is room
+pub tree-written : (t : Tree depthLimit) → WithinLimits t → length (listOf depthLimit t) ≤ lengthLimit
+    → (output work : List ℕ) → length (encoding depthLimit t) ≤ length output → length (sizesOf depthLimit t) ≤ length work
+    → written (listOf depthLimit t) output work ≡ success t output work
+tree-written = writable.tree-written
+
+-- 2. and distinct trees give distinct outputs, whatever stands behind them
+pub outputs-apart : (t u : Tree depthLimit) → WithinLimits t → WithinLimits u → (a b : List ℕ) → encoding depthLimit t ++ a ≡ encoding depthLimit u ++ b → t ≡ u
+outputs-apart = writable.outputs-apart
 
 -- ---- 3. "Strict passes a payload exactly if it is the encoding of some tree within the limits;"
 pub strict-exactly-encodings : (payload : List ℕ) → Bytes payload → (mask strict payload ≡ 0) ↔ ((t : Tree depthLimit) × WithinLimits t × (payload ≡ encoding depthLimit t))

@@ -15,4 +15,10 @@ mod Header
 mod PutField
 mod PutLoop
 mod Top
-mod OneAnswer
+pub mod Described
+pub mod Answers
+pub mod OneAnswer
+pub mod Describable
+pub mod ListLength
+pub mod Writable
+pub mod Beyond

@@ -2,3 +2,4 @@ pub mod Container
 pub mod Frames
 pub mod Passes
 pub mod Whole
+pub mod Describe

@@ -6,7 +6,11 @@
  * numbers (64 bits each: one whose meaning is the call's; the kind, start, end and depth of a place; whether there is a last
  * place, and its end; how many numbers are lent, at most 5), a length (32 bits), and so many bytes. An answer is six numbers of
  * 64 bits: what was answered, and the lent numbers afterwards, which are all 7 before, then 0; a call that the library does not
- * have answers ABSENT. The bytes and the lent numbers stand between pages that cannot be touched. */
+ * have answers ABSENT. The bytes and the lent numbers stand between pages that cannot be touched.
+ *
+ * The writer is lent an output of as many bytes as the first number says and as many work numbers as the end of the last place
+ * says, between such pages too and all 7 before, and at most 2 numbers for its answer. The last two numbers of the answer are
+ * then those that the output and the work numbers mix to (mixed, below). */
 
 typedef unsigned char u8;
 typedef unsigned int u32;
@@ -29,6 +33,8 @@ CALL u32 ajuqvane_double(PLACE, u64 *answer, u64 count);
 CALL u32 ajuqvane_signed(PLACE, u64 *answer, u64 count);
 CALL u32 ajuqvane_unsigned(PLACE, u64 *answer, u64 count);
 CALL u32 ajuqvane_ticks(PLACE, u64 *answer, u64 count);
+CALL u32 ajuqvane_write(const u8 *list, u64 list_length, u8 *out, u64 out_length, u32 *work, u64 work_count, u64 *answer,
+                        u64 count);
 
 #define ABSENT 0xABABABABABABABABul
 #define PAGE 4096ul
@@ -109,8 +115,13 @@ static u64 read_number(const u8 *bytes, u64 count) {
     return value;
 }
 
+/* FNV-1a of 64 bits, by a number at a time. */
+static u64 mixed(u64 mix, u64 number) { return (mix ^ number) * 0x100000001B3ul; }
+#define UNMIXED 0xCBF29CE484222325ul
+
 void answer_all(void) {
     u8 *block = guarded(BLOCK), *answers = guarded(BLOCK), *room = guarded(ROOM), *other = guarded(ROOM), *last = guarded(PAGE);
+    u8 *works = guarded(ROOM);
     for (;;) {
         u8 head[4];
         transfer(0, 0, head, 4);
@@ -187,6 +198,19 @@ void answer_all(void) {
                 break;
             case 14:
                 if (ajuqvane_ticks) answer[0] = ajuqvane_ticks(part, length, kind, start, end, depth, lent, count);
+                break;
+            case 15:
+                if (number > ROOM || after > ROOM / 4 || count > 2) leave(5);
+                if (ajuqvane_write) {
+                    u8 *out = at_end ? other + ROOM - number : other;
+                    u32 *work = (u32 *)(at_end ? works + ROOM - 4 * after : works);
+                    memset(out, 7, number);
+                    for (u64 i = 0; i < after; i++) work[i] = 7;
+                    answer[0] = ajuqvane_write(part, length, out, number, work, after, lent, count);
+                    answer[4] = answer[5] = UNMIXED;
+                    for (u64 i = 0; i < number; i++) answer[4] = mixed(answer[4], out[i]);
+                    for (u64 i = 0; i < after; i++) answer[5] = mixed(answer[5], work[i]);
+                }
                 break;
             default: leave(5);
             }

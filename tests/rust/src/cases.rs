@@ -4,8 +4,9 @@ use std::fmt::Write;
 
 use crate::independent::places::{Place, Refused};
 use crate::independent::write::Refusal;
-use crate::independent::{mask, program, write};
+use crate::independent::{mask, program};
 use crate::reading::Reading;
+use crate::writing;
 
 /// A question, of one of the kinds that a case file may have.
 #[derive(Clone, Debug, PartialEq, Eq)]
@@ -56,43 +57,11 @@ impl Answers for Independent {
         Some(match question {
             Question::Mask { modes, bytes } => Answer::Mask(mask::mask(*modes, bytes)),
             Question::Write { list, output_length, work_length } => {
-                written(*output_length, *work_length, |output, work| write::write(list, output, work))
+                writing::by_independent(list, *output_length, *work_length)
             }
             Question::Program { input } => Answer::Printed(program::print(input)),
             _ => return None,
         })
-    }
-}
-
-/// What the output and the work numbers hold before a write, so that what a writer touches is seen.
-const OUTPUT_BEFORE: u8 = 0xA5;
-const WORK_BEFORE: u32 = 0xA5A5_A5A5;
-
-/// Has a writer write into an output and work numbers of so many elements, and holds what it leaves in them to document 01
-/// (output past the encoding untouched, on a refusal all work numbers zero) and to docs/DECISIONS.md, 33 (on a refusal all
-/// output untouched).
-pub fn written(
-    output_length: usize,
-    work_length: usize,
-    writer: impl FnOnce(&mut [u8], &mut [u32]) -> Result<usize, Refusal>,
-) -> Answer {
-    let mut output = vec![OUTPUT_BEFORE; output_length];
-    let mut work = vec![WORK_BEFORE; work_length];
-    let answer = writer(&mut output, &mut work);
-    let length = answer.unwrap_or(0);
-    let Some(past) = output.get(length..) else {
-        return Answer::Broken(format!("length {length} of {output_length}"));
-    };
-    if past.iter().any(|byte| *byte != OUTPUT_BEFORE) {
-        return Answer::Broken("output touched that is not the encoding's".to_string());
-    }
-    match answer {
-        Ok(length) => {
-            output.truncate(length);
-            Answer::Written(output, work)
-        }
-        Err(_) if work.iter().any(|number| *number != 0) => Answer::Broken("a refusal left a work number".to_string()),
-        Err(refusal) => Answer::RefusedList(refusal),
     }
 }
 

@@ -5,5 +5,7 @@ pub mod cases;
 pub mod generate;
 pub mod independent;
 pub mod library;
+pub mod program;
 pub mod reading;
 pub mod walk;
+pub mod writing;

@@ -3,6 +3,7 @@
 
 use crate::cases::{Answer, Answers, Question};
 use crate::independent::places::Place;
+use crate::{program, writing};
 
 /// A foreign function of the library, as a module of its name with `HAS`, and with the function where it is there.
 macro_rules! foreign {
@@ -87,6 +88,21 @@ foreign!(has_lookup, foreign_lookup,
         count: usize
     ) -> u32);
 
+// The writer.
+foreign!(has_write, foreign_write,
+    /// 0: written, and the number lent is the encoding's length; 1 to 11: a refusal's number, and the number lent is its place;
+    /// 12: no number is lent.
+    fn ajuqvane_write(
+        list: *const u8,
+        list_length: usize,
+        out: *mut u8,
+        out_length: usize,
+        work: *mut u32,
+        work_count: usize,
+        answer: *mut u64,
+        count: usize
+    ) -> u32);
+
 /// Which calls the library has.
 pub const HAS_VALIDATE: bool = cfg!(has_validate);
 pub const HAS_VARUINT: bool = cfg!(has_varuint);
@@ -98,10 +114,16 @@ pub const HAS_WIDEN: bool = cfg!(has_widen);
 pub const HAS_PLACES: bool =
     cfg!(all(has_check, has_top, has_step, has_view, has_lookup, has_double, has_signed, has_unsigned, has_ticks));
 /// The writer.
-pub const HAS_WRITE: bool = false;
+pub const HAS_WRITE: bool = cfg!(has_write);
 /// Whether the library has any call.
-pub const HAS_ANY: bool =
-    HAS_VALIDATE || HAS_VARUINT || HAS_IS_TEXT || HAS_ARE_EQUAL || HAS_FLOAT32_HOLDS || HAS_WIDEN || HAS_PLACES;
+pub const HAS_ANY: bool = HAS_VALIDATE
+    || HAS_VARUINT
+    || HAS_IS_TEXT
+    || HAS_ARE_EQUAL
+    || HAS_FLOAT32_HOLDS
+    || HAS_WIDEN
+    || HAS_PLACES
+    || HAS_WRITE;
 
 /// What the reading calls answer where they neither have an answer nor meet a fault.
 pub const NO_MORE: u32 = 3;
@@ -109,6 +131,8 @@ pub const NOT_THERE: u32 = 5;
 pub const WRONG_KIND: u32 = 6;
 pub const OUT_OF_RANGE: u32 = 7;
 pub const TOO_FEW: u32 = 9;
+/// What the writer answers where no number is lent for its answer.
+pub const NONE_LENT: u32 = 12;
 
 /// The mask.
 #[inline(always)]
@@ -212,6 +236,24 @@ pub fn lookup(payload: &[u8], place: Place, name: &[u8], answer: &mut [u64]) -> 
     }
 }
 
+/// The writer: 0 and the encoding's length, or a refusal's number and its place.
+#[inline(always)]
+pub fn write(list: &[u8], output: &mut [u8], work: &mut [u32], answer: &mut [u64]) -> Option<u32> {
+    // Safety: each pointer and length are those of a slice, and those written to are lent mutably.
+    unsafe {
+        foreign_write::call(
+            list.as_ptr(),
+            list.len(),
+            output.as_mut_ptr(),
+            output.len(),
+            work.as_mut_ptr(),
+            work.len(),
+            answer.as_mut_ptr(),
+            answer.len(),
+        )
+    }
+}
+
 /// A call that takes a payload, a place and lent numbers, and nothing else: its foreign function and its wrapper.
 macro_rules! at_place {
     ($flag:ident, $module:ident, $foreign:ident, $(#[$about:meta])* fn $name:ident) => {
@@ -264,15 +306,18 @@ at_place!(has_ticks, foreign_ticks, ajuqvane_ticks,
     /// The ticks of a date or a span of time, in two's complement.
     fn ticks);
 
-/// The library as one who answers questions. A kind of question gets its answer here once the library has its call.
+/// The library as one who answers questions, and the program for its own. A kind of question gets its answer here once the
+/// library has its call, or the program is built.
 pub struct Library;
 
 impl Answers for Library {
     fn answer(&self, question: &Question) -> Option<Answer> {
         match question {
             Question::Mask { modes, bytes } => validate(*modes, bytes).map(Answer::Mask),
-            // The writer: no calls yet.
-            Question::Write { .. } | Question::Program { .. } => None,
+            Question::Write { list, output_length, work_length } => {
+                writing::by_library(list, *output_length, *work_length)
+            }
+            Question::Program { input } => program::answer(input),
             _ => question.reading().and_then(|(bytes, reading)| reading.by_library(bytes)),
         }
     }

@@ -1,5 +1,5 @@
-//! answer [--independent] FILE..: answers the questions of case files through the library, or with the independent
-//! implementation, and holds the answers to the files'. Prints each line whose answer differs, with the answer given, and
+//! answer [--independent] FILE..: answers the questions of case files through the library, the program's through the program
+//! if that is built, or all with the independent implementation, and holds the answers to the files'. Prints each line whose answer differs, with the answer given, and
 //! last `answered N, skipped S, differences M`. The exit status is 1 if M is not 0, 2 if a file or a line cannot be read.
 
 use std::collections::BTreeMap;
@@ -59,7 +59,7 @@ fn main() -> ExitCode {
         }
     }
     for (kind, count) in &skipped {
-        println!("skipped {kind}: {count}, the library has no such call");
+        println!("skipped {kind}: {count}, there is no such call or program");
     }
     println!("answered {answered}, skipped {}, differences {differences}", skipped.values().sum::<u64>());
     ExitCode::from(u8::from(differences != 0))

@@ -1,16 +1,17 @@
 //! archive COUNT COMMAND..: compares the static library as the kit writes it with the independent implementation on COUNT
-//! generated payloads: COMMAND runs the program that calls it (archive/caller.c), under an emulator where the machine is no
-//! x86-64. Every payload stands between pages that cannot be touched, against the end of its page or the start. The last line
+//! generated payloads and write lists: COMMAND runs the program that calls it (archive/caller.c), under an emulator where the machine is no
+//! x86-64. Every payload and list stands between pages that cannot be touched, against the end of its page or the start. The last line
 //! is `compared N, differences M`; the exit status is 1 if M is not 0, and 2 if the library has no call or the program ends.
 
 use std::io::{Read, Write};
 use std::process::{Child, ChildStdin, ChildStdout, Command, ExitCode, Stdio};
 
-use ajuqvane_tests::cases::hexadecimal;
-use ajuqvane_tests::generate::{payloads, places, Random};
+use ajuqvane_tests::cases::{hexadecimal, Question};
+use ajuqvane_tests::generate::{lists, payloads, places, Random};
 use ajuqvane_tests::independent::places::{check, Place};
+use ajuqvane_tests::independent::write::write;
 use ajuqvane_tests::independent::{float, mask, number, text};
-use ajuqvane_tests::library::TOO_FEW;
+use ajuqvane_tests::library::{NONE_LENT, TOO_FEW};
 use ajuqvane_tests::reading::Reading;
 
 const SEED: u64 = 23;
@@ -39,6 +40,7 @@ enum Call {
     Signed,
     Unsigned,
     Ticks,
+    Write,
 }
 
 /// Questions about places of each payload.
@@ -58,7 +60,7 @@ struct Arguments {
     count: usize,
 }
 
-/// What is answered, and the lent numbers afterwards, then 0.
+/// What is answered, and the lent numbers afterwards, then 0; of the writer in the last two what output and work numbers mix to.
 type Given = [u64; 6];
 
 /// A request and the answer that is expected.
@@ -74,6 +76,14 @@ struct Requests {
     bytes: Vec<u8>,
     asked: Vec<Asked>,
 }
+
+/// FNV-1a of 64 bits, by a number at a time.
+fn mixed(mix: u64, number: u64) -> u64 {
+    (mix ^ number).wrapping_mul(0x100_0000_01B3)
+}
+
+/// What no numbers mix to.
+const UNMIXED: u64 = 0xCBF2_9CE4_8422_2325;
 
 /// An answer with so many lent numbers, the first of which were written.
 fn given(code: u32, written: &[u64], count: usize) -> Given {
@@ -133,7 +143,26 @@ impl Requests {
         }
     }
 
-    /// The requests about one payload and about parts of it, and two about patterns.
+    /// The writer, now and then with no number lent for its answer.
+    fn ask_writer(&mut self, random: &mut Random, list: &[u8], output_length: usize, work_length: usize) {
+        let count = if random.below(4) == 0 { 0 } else { random.between(1, 2) };
+        let mut output = vec![BEFORE as u8; output_length];
+        let mut work = vec![BEFORE as u32; work_length];
+        let mut expected = match count {
+            0 => given(NONE_LENT, &[], 0),
+            _ => match write(list, &mut output, &mut work) {
+                Ok(length) => given(0, &[length as u64], count),
+                Err(refusal) => given(refusal.number, &[refusal.place as u64], count),
+            },
+        };
+        expected[4] = output.iter().fold(UNMIXED, |mix, byte| mixed(mix, (*byte).into()));
+        expected[5] = work.iter().fold(UNMIXED, |mix, number| mixed(mix, (*number).into()));
+        let arguments =
+            Arguments { number: output_length as u64, last: work_length as u64, count, ..Arguments::default() };
+        self.ask(random, Call::Write, arguments, list, expected);
+    }
+
+    /// The requests about one payload and about parts of it, two about patterns, and those about a write list.
     fn ask_all(&mut self, random: &mut Random) {
         let payload = payloads::payload(random);
         let other = random.next() as u32;
@@ -169,6 +198,12 @@ impl Requests {
         self.ask(random, Call::Float32Holds, with(bits), &[], given(float::float32_holds(bits).into(), &[], 0));
         let bits = random.float_bits();
         self.ask(random, Call::Widen, with(bits.into()), &[], [float::widen(bits), 0, 0, 0, 0, 0]);
+        let list = lists::list(random);
+        for question in lists::questions(random, &list) {
+            if let Question::Write { list, output_length, work_length } = question {
+                self.ask_writer(random, &list, output_length, work_length);
+            }
+        }
     }
 }
 

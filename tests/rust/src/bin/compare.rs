@@ -1,7 +1,8 @@
 //! compare [--spread] COUNT [SEED]: makes COUNT payloads, each with questions about it (its mask in modes 0 to 7 and in one
 //! random number, and what else the library has calls for: questions about places true and forged, and a walk by steps
-//! through the whole payload), and COUNT write lists if the library has a writer, and holds the library's answers to the
-//! independent implementation's. A failing question is printed as a line of a case file, with the library's answer after it.
+//! through the whole payload), and COUNT write lists if the library has a writer, each with lengths of output and work numbers
+//! around what it needs, and holds the library's answers to the independent implementation's. The program that writes a list is
+//! asked about some of them, a process for each, if it is built. A failing question is printed as a line of a case file, with the library's answer after it.
 //! Each kind of question is printed with how often it was compared, and last `compared N, differences M`; the exit status is
 //! 1 if M is not 0, and 2 if the library has no call. With --spread the independent implementation answers alone, and what
 //! is printed is how often each answer comes.
@@ -16,6 +17,7 @@ use ajuqvane_tests::independent::{number, places as independent_places, text};
 use ajuqvane_tests::library::{self, Library};
 use ajuqvane_tests::reading::Reading;
 use ajuqvane_tests::walk::walk;
+use ajuqvane_tests::{program, writing};
 
 /// The seed if none is given.
 const SEED: u64 = 20_260_101;
@@ -23,6 +25,8 @@ const SEED: u64 = 20_260_101;
 const PLACES: usize = 12;
 /// The values of so many fields of each walk are compared.
 const WALKED: usize = 16;
+/// The program is asked about one of so many lists.
+const PROGRAM: u64 = 400;
 /// At most so many failing inputs are printed.
 const PRINTED: u64 = 20;
 
@@ -58,7 +62,15 @@ fn main() -> ExitCode {
         if library::HAS_PLACES {
             compare_walk(&payload, &mut tally);
         }
-        for question in questions(&mut random, &payload, library::HAS_PLACES, library::HAS_WRITE) {
+        let mut questions = questions(&mut random, &payload, library::HAS_PLACES);
+        if library::HAS_WRITE {
+            let list = write_list(&mut random);
+            questions.extend(lists::questions(&mut random, &list));
+            if index % PROGRAM == 0 && program::is_there() {
+                questions.push(Question::Program { input: lists::input(&mut random, &list) });
+            }
+        }
+        for question in questions {
             if let Some(given) = Library.answer(&question) {
                 let expected = Independent.answer(&question);
                 tally.hold(question.kind(), expected.as_ref() == Some(&given), || {
@@ -101,26 +113,31 @@ impl Tally {
     }
 }
 
-/// The questions of one input.
-fn questions(random: &mut Random, payload: &[u8], with_places: bool, with_lists: bool) -> Vec<Question> {
+/// The questions of one payload.
+fn questions(random: &mut Random, payload: &[u8], with_places: bool) -> Vec<Question> {
     let mut questions = mask_questions(random, payload);
     if with_places {
         questions.extend(places::questions(random, payload, PLACES));
     }
-    if with_lists {
-        let list = match random.below(200) {
-            0 => lists::many_containers(random),
-            _ => lists::list(random),
-        };
-        questions.extend(lists::questions(random, &list));
-        questions.push(Question::Program { input: lists::input(random, &list) });
-    }
     questions
 }
 
-/// What a case file has no question for: the check of a place by itself, and the other numbers that say of a step whether there
-/// is a last place.
+/// The write list of one input.
+fn write_list(random: &mut Random) -> Vec<u8> {
+    match random.below(400) {
+        0 => lists::many_containers(random),
+        _ => lists::list(random),
+    }
+}
+
+/// What a case file has no question for: the check of a place by itself, the other numbers that say of a step whether there
+/// is a last place, and a writer that is lent no number for its answer.
 fn compare_more(random: &mut Random, question: &Question, tally: &mut Tally) {
+    if let Question::Write { list, output_length, work_length } = question {
+        if let Some(refuses) = writing::refuses_none_lent(list, *output_length, *work_length) {
+            tally.hold("write, no number lent", refuses, || format!("{question}\twith no number lent for the answer"));
+        }
+    }
     let Some((bytes, reading)) = question.reading() else { return };
     let Some(place) = reading.place() else { return };
     if let Some(given) = library::check(bytes, place) {
@@ -207,7 +224,11 @@ fn print_spread(count: u64, seed: u64) {
     for index in 0..count {
         let mut random = Random::new(seed, index);
         let payload = payloads::payload(&mut random);
-        for question in questions(&mut random, &payload, true, true) {
+        let mut questions = questions(&mut random, &payload, true);
+        let list = write_list(&mut random);
+        questions.extend(lists::questions(&mut random, &list));
+        questions.push(Question::Program { input: lists::input(&mut random, &list) });
+        for question in questions {
             if let Some(answer) = Independent.answer(&question) {
                 let label = match answer {
                     Answer::Printed(text) if text.starts_with("refused") => {

@@ -1,16 +1,18 @@
 //! guard: runs the library's calls on payloads of every length to 300 that stand flush against the end, and then against
 //! the start, of a readable page between two that cannot be touched, so that a byte read outside the payload ends the
-//! program. The answers are held to the independent implementation's too. Last `guarded N calls, differences M`.
+//! program; and the writer on lists of every such length, with the output, the work numbers and the answer's number between
+//! such pages too. The answers are held to the independent implementation's too. Last `guarded N calls, differences M`.
 
 use std::ffi::{c_int, c_long, c_void};
 use std::process::ExitCode;
 use std::sync::atomic::{AtomicU64, Ordering};
 
-use ajuqvane_tests::cases::hexadecimal;
-use ajuqvane_tests::generate::{payloads, places, Random};
+use ajuqvane_tests::cases::{hexadecimal, Question};
+use ajuqvane_tests::generate::{lists, payloads, places, Random};
 use ajuqvane_tests::independent::{mask, number, places as independent_places, text};
 use ajuqvane_tests::library;
 use ajuqvane_tests::reading::{Reading, BEFORE};
+use ajuqvane_tests::writing;
 
 const SEED: u64 = 13;
 /// The longest payload.
@@ -19,6 +21,8 @@ const LONGEST: usize = 300;
 const PAYLOADS: u64 = 60;
 /// Questions about places of each payload.
 const PLACES: usize = 24;
+/// Lists of each length.
+const LISTS: u64 = 60;
 
 extern "C" {
     fn mmap(
@@ -168,6 +172,19 @@ fn main() -> ExitCode {
             }
         }
     }
+    if library::HAS_WRITE {
+        let mut pages = WriterPages { list: page, output: other_page, work: Guarded::new(), answer: answer_page };
+        for length in 0..=LONGEST {
+            for round in 0..LISTS {
+                CURRENT.store((length as u64) << 32 | round, Ordering::Relaxed);
+                let mut random = Random::new(SEED + 2, (length as u64) << 32 | round);
+                let list = list(&mut random, length);
+                for flush in [Flush::End, Flush::Start] {
+                    write_calls(&mut tally, &mut random, &list, &mut pages, flush);
+                }
+            }
+        }
+    }
     println!("guarded {} calls, differences {}", tally.calls, tally.differences);
     ExitCode::from(if tally.differences != 0 {
         1
@@ -278,4 +295,79 @@ fn reading_calls(
             }
         }
     }
+}
+
+/// A list of a length, made by itself and then cut, or filled: a tree's inside an array that has other items too and closes at
+/// the end, so that it is sound where there is room for that; or one of any sort with bytes after it.
+fn list(random: &mut Random, length: usize) -> Vec<u8> {
+    let mut made = lists::list(random);
+    while made.len() > 4 * LONGEST {
+        made = lists::list(random);
+    }
+    match length.checked_sub(made.len() + 2) {
+        Some(room) if random.below(2) == 0 => {
+            let filler = *random.pick(&[0x01, 0x0C, 0x0D]);
+            let mut list = vec![0x04];
+            list.extend(made);
+            list.resize(list.len() + room, filler);
+            list.push(0x00);
+            list
+        }
+        _ => {
+            made.resize(length, *random.pick(&[0x00, 0x01, 0x02, 0x04, 0x61, 0xC3, 0xFF]));
+            made
+        }
+    }
+}
+
+/// What the writer is lent, each between pages that cannot be touched.
+struct WriterPages {
+    list: Guarded,
+    output: Guarded,
+    work: Guarded,
+    answer: Guarded,
+}
+
+/// The writer with lengths of output and work numbers around what it needs, and with no number lent for its answer, with one
+/// and with two. The list stands in a page that can only be read.
+fn write_calls(tally: &mut Tally, random: &mut Random, list: &[u8], pages: &mut WriterPages, flush: Flush) {
+    pages.list.part(list.len(), flush).copy_from_slice(list);
+    pages.list.protect(PROT_READ);
+    let lent_list: &[u8] = pages.list.part(list.len(), flush);
+    for question in lists::questions(random, list) {
+        let Question::Write { output_length, work_length, .. } = question else { continue };
+        if output_length > pages.output.length || work_length * size_of::<u32>() > pages.work.length {
+            continue;
+        }
+        let expected = writing::by_independent(list, output_length, work_length);
+        for count in 0..=2 {
+            let output = pages.output.part::<u8>(output_length, flush);
+            let work = pages.work.part::<u32>(work_length, flush);
+            let answer = pages.answer.part::<u64>(count, flush);
+            output.fill(writing::OUTPUT_BEFORE);
+            work.fill(writing::WORK_BEFORE);
+            answer.fill(writing::ANSWER_BEFORE);
+            let Some(code) = library::write(lent_list, output, work, answer) else { continue };
+            let same = match (answer.split_first(), answer.first().and_then(|first| writing::result_of(code, *first))) {
+                (None, _) => {
+                    code == library::NONE_LENT
+                        && output.iter().all(|byte| *byte == writing::OUTPUT_BEFORE)
+                        && work.iter().all(|number| *number == writing::WORK_BEFORE)
+                }
+                (Some((_, others)), Some(result)) => {
+                    let split = output.split_at_checked(result.unwrap_or(0));
+                    let encoding = split.filter(|(_, past)| past.iter().all(|byte| *byte == writing::OUTPUT_BEFORE));
+                    writing::told(result, encoding.map(|(encoding, _)| encoding), Some(work)) == expected
+                        && others.iter().all(|number| *number == writing::ANSWER_BEFORE)
+                }
+                (Some(_), None) => false,
+            };
+            tally.hold_or_say(same, || {
+                format!(
+                    "{question}\t{expected}\tlibrary, with {count} numbers lent: {code} {answer:?} {output:?} {work:?}"
+                )
+            });
+        }
+    }
+    pages.list.protect(PROT_READ | PROT_WRITE);
 }

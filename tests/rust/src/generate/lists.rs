@@ -197,6 +197,9 @@ fn spoil(random: &mut Random, frames: &mut Vec<Frame>) {
             frames.insert(at, again);
         }
         13 => {
+            // A close as often as any other.
+            let closes: Vec<usize> = (0..frames.len()).filter(|at| frames[*at].kind == 0).collect();
+            let at = if closes.is_empty() || random.below(2) == 0 { at } else { *random.pick(&closes) };
             frames.remove(at);
         }
         _ => {
@@ -220,11 +223,11 @@ fn named<'a>(random: &mut Random, frames: &'a mut [Frame]) -> Option<&'a mut Vec
 
 /// A write list of any sort.
 pub fn list(random: &mut Random) -> Vec<u8> {
-    match random.below(100) {
+    match random.below(200) {
         // 7, 1 and other refusals at the front.
-        0..=4 => return payloads::few(random),
+        0..=9 => return payloads::few(random),
         // 9, and lists that are just not too long.
-        5 | 6 => {
+        10 | 11 => {
             let tree = trees::long(random);
             let mut list = list_of(&frames(random, &tree));
             if random.below(2) == 0 {
@@ -233,13 +236,16 @@ pub fn list(random: &mut Random) -> Vec<u8> {
             return list;
         }
         // 11: an encoding that is longer than its list, and one that just fits.
-        7 => {
-            let count = *random.pick(&[16_382, 16_383, 21_840, 21_843, 21_844, 32_766, 32_767]);
+        12 => {
+            // 65,536 bytes are those of 32,764 empty arrays, or of 21,842 and three nulls beside them.
+            let count = *random.pick(&[16_382, 16_383, 21_841, 21_842, 21_843, 32_763, 32_764, 32_765, 32_767]);
             let mut list = vec![ARRAY];
             list.extend((0..count).flat_map(|_| [ARRAY, 0]));
+            list.extend((0..random.below(6)).map(|_| NULL));
             list.push(0);
             return list;
         }
+        13 => return many_names(random),
         _ => {}
     }
     let hostile = random.below(5) == 0;
@@ -253,13 +259,52 @@ pub fn list(random: &mut Random) -> Vec<u8> {
         }
     }
     let mut list = list_of(&frames);
-    if random.below(10) == 0 {
-        payloads::damage(random, &mut list, &[0, 0, 2, 1, 97, 8, 5, 0]);
+    if random.below(8) == 0 {
+        let other = trees::tree(random, false);
+        let other = list_of(&self::frames(random, &other));
+        payloads::damage(random, &mut list, &other);
     }
     list
 }
 
-/// Questions about a list: lengths of output and work numbers that are ample, and around what it needs; and the program's.
+/// An object of as many short names as some 1,536 bytes hold, and now and then one of them twice.
+fn many_names(random: &mut Random) -> Vec<u8> {
+    let length = 1_530 + random.below(12);
+    let frame = |kind, name| Frame { kind, name, payload: Vec::new() };
+    let mut frames = vec![frame(OBJECT, None)];
+    // The object's frame and its close.
+    let mut taken = 2;
+    let ones = (0..128).map(|a| vec![a]);
+    let twos = (0..128).flat_map(|a| (0..128).map(move |b| vec![a, b]));
+    for mut name in ones.chain(twos) {
+        // The last takes all that is left.
+        let rest: usize = length - taken;
+        if rest < 8 {
+            name.resize(rest - 2, b'x');
+        }
+        taken += 2 + name.len();
+        frames.push(frame(*random.pick(&[NULL, TRUE]), Some(name)));
+        if taken == length {
+            break;
+        }
+    }
+    if random.below(2) == 0 {
+        let (a, b) = (random.between(1, frames.len() - 1), random.between(1, frames.len() - 1));
+        frames[a].name = frames[b].name.clone();
+    }
+    frames.push(frame(0, None));
+    list_of(&frames)
+}
+
+/// The lengths around one: it, one less and one more, and zero.
+fn around(length: usize) -> Vec<usize> {
+    let mut lengths = vec![0, length.saturating_sub(1), length, length + 1];
+    lengths.dedup();
+    lengths
+}
+
+/// Questions about a list: lengths of output and work numbers that are ample, and around what it needs. Of a short list now
+/// and then all lengths around, each with each.
 pub fn questions(random: &mut Random, list: &[u8]) -> Vec<Question> {
     let (length, containers) = match tree_of_list(list) {
         Ok(tree) => {
@@ -268,6 +313,13 @@ pub fn questions(random: &mut Random, list: &[u8]) -> Vec<Question> {
         }
         Err(_) => (list.len(), random.below(6)),
     };
+    let question = |output_length, work_length| Question::Write { list: list.to_vec(), output_length, work_length };
+    if list.len() < 200 && random.below(8) == 0 {
+        let lengths = around(length)
+            .into_iter()
+            .flat_map(|output| around(containers).into_iter().map(move |work| (output, work)));
+        return lengths.map(|(output, work)| question(output, work)).collect();
+    }
     let mut questions = Vec::new();
     for _ in 0..2 {
         let output_length = match random.below(6) {
@@ -284,7 +336,7 @@ pub fn questions(random: &mut Random, list: &[u8]) -> Vec<Question> {
             3 => 0,
             _ => containers + random.below(10),
         };
-        questions.push(Question::Write { list: list.to_vec(), output_length, work_length });
+        questions.push(question(output_length, work_length));
     }
     questions
 }
