@@ -1,4 +1,6 @@
 pub mod Examples
+pub mod PinnedMasks
+pub mod PinnedWrites
 pub mod Lists
 pub mod Back
 pub mod KindLaws
