@@ -18,7 +18,7 @@ extern "C" {
  * 0: it is whole. answer[0] is its value, answer[1] how many bytes it takes, answer[2] is 1 if no shorter form holds the
  *    value and 0 otherwise; the other numbers are as they were.
  * 1: the part cuts it off. All numbers are as they were.
- * 2: fewer than 3 numbers are lent, whatever the part holds. All numbers are as they were. */
+ * 12: fewer than 3 numbers are lent, whatever the part holds. All numbers are as they were. */
 uint32_t ajuqvane_varuint(const uint8_t *part, size_t length, uint64_t *answer, size_t count);
 
 /* 1 if the part is UTF-8 by RFC 3629, which a part of no bytes is; 0 otherwise. */
@@ -69,7 +69,7 @@ uint32_t ajuqvane_validate(uint32_t modes, const uint8_t *payload, size_t length
  *   5 not there: no field of the object has the name
  *   6 wrong kind: the place's kind is not one that the call reads
  *   7 out of range: the integer is not one that the call can answer exactly
- *   9 fewer numbers are lent than the call may answer, whatever else is wrong
+ *   12 fewer numbers are lent than the call may answer, whatever else is wrong
  * If the answer is not 0, all lent numbers are as they were. count is how many numbers answer points to.
  *
  * The check of a place, whose faults come in this order: 8 more than 65536 bytes; 1 start past end, or end past the payload;
@@ -81,7 +81,7 @@ uint32_t ajuqvane_check(const uint8_t *payload, size_t length, uint8_t kind, siz
 
 /* The top place, from which all others are reached.
  * 0: answer[0] to answer[3] are its kind, start, end and depth.
- * 1, 2, 8, 2048, 9. Asks for 4 numbers. */
+ * 1, 2, 8, 2048, 12. Asks for 4 numbers. */
 uint32_t ajuqvane_top(const uint8_t *payload, size_t length, uint64_t *answer, size_t count);
 
 /* A step to the next field of an object, or item of an array. some is 0 for the first one, and last is then ignored; otherwise
@@ -89,45 +89,45 @@ uint32_t ajuqvane_top(const uint8_t *payload, size_t length, uint64_t *answer, s
  * 0: answer[0] to answer[3] are the field's kind, start, end and depth. Its name stands in the payload from answer[4] to
  *    answer[1], its start; an item's is empty.
  * 3 after the last one; 6 on a kind that is no container; 1 also where last is outside the contents; 4 also for a field at
- * depth 33; 2, 8, 2048, 9. Asks for 5 numbers. */
+ * depth 33; 2, 8, 2048, 12. Asks for 5 numbers. */
 uint32_t ajuqvane_step(const uint8_t *payload, size_t length, uint8_t kind, size_t start, size_t end, uint32_t depth,
                        uint32_t some, size_t last, uint64_t *answer, size_t count);
 
 /* A place's view: what the field holds, after its size if it has one. A string's is its text, an integer's its VarUInt; an
  * array's begins with its count, a custom's with its id or with its name's length.
  * 0: the view stands in the payload from answer[0] to answer[1].
- * 1, 2, 4, 8, 2048, 9. Asks for 2 numbers. */
+ * 1, 2, 4, 8, 2048, 12. Asks for 2 numbers. */
 uint32_t ajuqvane_view(const uint8_t *payload, size_t length, uint8_t kind, size_t start, size_t end, uint32_t depth,
                        uint64_t *answer, size_t count);
 
 /* The first field of an object that has this name, byte by byte. Fields before it are stepped over, those after it not looked
  * at. The name may be a part of the payload, and may be empty.
  * 0: answer[0] to answer[3] are the field's kind, start, end and depth.
- * 5 if there is none; 6 on a kind that is no object; a fault also where a step on the way meets one; 9. Asks for 4 numbers. */
+ * 5 if there is none; 6 on a kind that is no object; a fault also where a step on the way meets one; 12. Asks for 4 numbers. */
 uint32_t ajuqvane_lookup(const uint8_t *payload, size_t length, uint8_t kind, size_t start, size_t end, uint32_t depth,
                          const uint8_t *name, size_t name_length, uint64_t *answer, size_t count);
 
 /* A number as a double, exact or refused: a Float32 as ajuqvane_widen has it, a Float64 as it is, an integer from -2^53 to 2^53.
  * 0: answer[0] is the double's 64 bits.
- * 7 for any other integer; 6 for any other kind; 1, 2, 4, 8, 2048, 9. Asks for 1 number. */
+ * 7 for any other integer; 6 for any other kind; 1, 2, 4, 8, 2048, 12. Asks for 1 number. */
 uint32_t ajuqvane_double(const uint8_t *payload, size_t length, uint8_t kind, size_t start, size_t end, uint32_t depth,
                          uint64_t *answer, size_t count);
 
 /* An integer as a signed number of 64 bits.
  * 0: answer[0] is the integer in two's complement.
- * 7 below -2^63 or from 2^63 up; 6 if it is no integer; 1, 2, 4, 8, 2048, 9. Asks for 1 number. */
+ * 7 below -2^63 or from 2^63 up; 6 if it is no integer; 1, 2, 4, 8, 2048, 12. Asks for 1 number. */
 uint32_t ajuqvane_signed(const uint8_t *payload, size_t length, uint8_t kind, size_t start, size_t end, uint32_t depth,
                          uint64_t *answer, size_t count);
 
 /* An integer as an unsigned number of 64 bits.
  * 0: answer[0] is the integer.
- * 7 below 0; 6 if it is no integer; 1, 2, 4, 8, 2048, 9. Asks for 1 number. */
+ * 7 below 0; 6 if it is no integer; 1, 2, 4, 8, 2048, 12. Asks for 1 number. */
 uint32_t ajuqvane_unsigned(const uint8_t *payload, size_t length, uint8_t kind, size_t start, size_t end, uint32_t depth,
                            uint64_t *answer, size_t count);
 
 /* The ticks of a DateTime or a TimeSpan.
  * 0: answer[0] is the ticks in two's complement.
- * 6 for any other kind; 1, 2, 4, 8, 2048, 9. Asks for 1 number. */
+ * 6 for any other kind; 1, 2, 4, 8, 2048, 12. Asks for 1 number. */
 uint32_t ajuqvane_ticks(const uint8_t *payload, size_t length, uint8_t kind, size_t start, size_t end, uint32_t depth,
                         uint64_t *answer, size_t count);
 
@@ -142,7 +142,8 @@ uint32_t ajuqvane_ticks(const uint8_t *payload, size_t length, uint8_t kind, siz
  *    containers as written, in order of opening, and 0 after these.
  * 1 to 11: it is refused. answer[0] is a place in the list: where the frame starts, unless another is said. All bytes of out are
  *    as they were, and all work numbers are 0.
- * 12: no number is lent for the answer, whatever else is wrong. Nothing is touched.
+ * 12: it is refused because no number is lent for the answer, whatever else is wrong. All bytes of out are as they were, and all
+ *    work numbers are 0.
  * Numbers of answer after the first are as they were.
  *
  * The refusals in the order in which they are looked for; 8 to 4, and 2 and 5 again, at each frame in turn:

@@ -7,10 +7,10 @@ use lib.ListN.{length, set}
 use borrow.Author.Tests.{lt-ltb, le-ltb}
 use Rattle.number.specs.VarUInt.{varUInt}
 use Rattle.number.specs.declared.VarUInt.the-variants.{Cut, Whole}
-use Rattle.cabi.specs.Number.{truth, afterwards, varuint}
+use Rattle.cabi.specs.Number.{truth, tooFew, afterwards, varuint}
 
 module _ (s l : List ℕ) where
-  pub few : length l < 3 → afterwards 2 l ≡ varuint s l
+  pub few : length l < 3 → afterwards tooFew l ≡ varuint s l
   few h = simp (lt-ltb _ _ h)
 
   pub cut : 3 ≤ length l → varUInt s ≡ Cut → afterwards 1 l ≡ varuint s l

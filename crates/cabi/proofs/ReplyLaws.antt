@@ -17,8 +17,8 @@ use Rattle.number.specs.Signed.{toTwos}
 use Rattle.format.specs.declared.Place.{Place}
 use Rattle.format.specs.declared.After.{After}
 use Rattle.format.specs.declared.After.the-variants.{Start, Last}
-use Rattle.cabi.specs.Number.{Afterwards, afterwards}
-use Rattle.cabi.specs.Reply.{Reply, tooFew, told, placeOf, afterOf}
+use Rattle.cabi.specs.Number.{tooFew, Afterwards, afterwards}
+use Rattle.cabi.specs.Reply.{Reply, told, placeOf, afterOf}
 
 pub after-none : (some last : ℕ) → some ≡ 0 → Start ≡ afterOf some last
 after-none some last h = rw (eq-eqb some 0 h)

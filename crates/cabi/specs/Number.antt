@@ -12,6 +12,10 @@ use Rattle.number.specs.declared.VarUInt.the-variants.{Cut, Whole}
 abbrev pub truth : Bool → ℕ
 truth t = cond t 1 0
 
+-- fewer numbers are lent than the call may answer: no fault, no refusal and no answer has this number
+abbrev pub tooFew : ℕ
+tooFew = 12
+
 -- the answer, and what the lent numbers are afterwards
 pub record Afterwards : Type 0 where
   pub answer : ℕ
@@ -25,6 +29,6 @@ abbrev pub told : VarUInt → List ℕ → Afterwards
 told Cut l = afterwards 1 l
 told (Whole v n m) l = afterwards 0 (sets l 0 (v ∷ n ∷ truth m ∷ []))
 
--- 2 where fewer than three numbers are lent, whatever the part holds
+-- three numbers are asked for, whatever the part holds
 abbrev pub varuint : List ℕ → List ℕ → Afterwards
-varuint s l = cond (ltb (length l) 3) (afterwards 2 l) (told (varUInt s) l)
+varuint s l = cond (ltb (length l) 3) (afterwards tooFew l) (told (varUInt s) l)

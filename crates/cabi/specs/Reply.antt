@@ -28,7 +28,7 @@ use Rattle.format.specs.declared.Unsigned.the-variants as U
 use Rattle.format.specs.declared.Ticks.{Ticks}
 use Rattle.format.specs.declared.Ticks.the-variants as K
 use Rattle.format.specs.Mask.{stopValue}
-use Rattle.cabi.specs.Number.{Afterwards, afterwards}
+use Rattle.cabi.specs.Number.{tooFew, Afterwards, afterwards}
 
 pub record Reply : Type 0 where
   pub code : ℕ
@@ -52,9 +52,6 @@ wrongKind = 6
 
 abbrev pub outOfRange : ℕ
 outOfRange = 7
-
-abbrev pub tooFew : ℕ
-tooFew = 9
 
 -- the values stand at the front of the lent numbers, of which n are asked for, whatever the answer is
 abbrev pub told : ℕ → Reply → List ℕ → Afterwards

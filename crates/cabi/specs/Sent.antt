@@ -7,7 +7,8 @@ use lib.Seq.{sets}
 use lib.Dec.{ltb}
 use Rattle.format.specs.declared.Written.{Written}
 use Rattle.format.specs.declared.Written.the-variants.{Done, Refused}
-use Rattle.format.specs.Writer.{refusalNumber, Result, written}
+use Rattle.format.specs.Writer.{refusalNumber, Result, zeros, written}
+use Rattle.cabi.specs.Number.{tooFew}
 
 pub record Sent : Type 0 where
   pub code : ℕ
@@ -27,9 +28,6 @@ numberOf (Refused k p) = p
 abbrev pub sentOf : Result → List ℕ → Sent
 sentOf r l = record { code = codeOf (r .answer); held = sets l 0 (numberOf (r .answer) ∷ []); output = r .output; work = r .work }
 
--- where no number is lent for the answer, nothing is touched
-abbrev pub noNumber : ℕ
-noNumber = 12
-
+-- where no number is lent for the answer, that is a refusal too: the output is left, and all work numbers are zero
 unfoldable pub sent : List ℕ → List ℕ → List ℕ → List ℕ → Sent
-sent list output work l = cond (ltb (length l) 1) (record { code = noNumber; held = l; output = output; work = work }) (sentOf (written list output work) l)
+sent list output work l = cond (ltb (length l) 1) (record { code = tooFew; held = l; output = output; work = zeros (length work) }) (sentOf (written list output work) l)

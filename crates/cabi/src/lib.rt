@@ -35,14 +35,16 @@ fn number_of(t: bool) -> u32
     if t { 1 } else { 0 }
 }
 
-// 0: a whole VarUInt stands at the front of the part, and `answer` starts with its value, the bytes it takes, and 1 if it is minimal.
-// 1: the part cuts it off. 2: `answer` has fewer than 3 numbers.
+// Fewer numbers are lent than the call may answer.
+const TOO_FEW: u32 = 12;
+
+// 0: a whole VarUInt stands at the front, and `answer` starts with its value, the bytes it takes, and 1 if it is minimal. 1: it is cut off.
 #[no_mangle]
 pub extern "C" fn ajuqvane_varuint(part: &[u8], answer: &mut [u64]) -> u32
     ensures { λ r. ⌜ afterwards r (now (answer .exit)) ≡ varuint (now (part .entry)) (now (answer .entry)) ⌝ }
 {
     if answer.len() < 3 {
-        return 2;
+        return TOO_FEW;
     }
     match number::read(part) {
         VarUInt::Cut => 1,
@@ -99,8 +101,7 @@ pub extern "C" fn ajuqvane_validate(modes: u32, payload: &[u8]) -> u32
     validate::validate(modes, payload)
 }
 
-// The calls on places answer 0 where they have an answer, which the lent numbers then start with; the number of the fault that the check of
-// the place met, or the step; or one of these.
+// The calls on places answer 0, where the lent numbers then start with what is asked for; the number of the fault met; or one of these.
 const NO_MORE: u32 = 3;
 
 const NOT_THERE: u32 = 5;
@@ -108,9 +109,6 @@ const NOT_THERE: u32 = 5;
 const WRONG_KIND: u32 = 6;
 
 const OUT_OF_RANGE: u32 = 7;
-
-// Fewer numbers are lent than the call may answer.
-const TOO_FEW: u32 = 9;
 
 fn place_of(kind: u8, start: usize, end: usize, depth: u32) -> Place
     ensures { λ r. ⌜ r ≡ placeOf kind start end depth ⌝ }
@@ -187,8 +185,7 @@ pub extern "C" fn ajuqvane_top(payload: &[u8], answer: &mut [u64]) -> u32
     }
 }
 
-// A step: the next field's kind, start, end and depth, and where its name begins (it ends at the start). With some 0 it is the first
-// field; otherwise the one behind the last place, of which last is the end.
+// A step: the field's kind, start, end and depth, and where its name begins: the first field with some 0, else the one behind the end last.
 #[no_mangle]
 pub extern "C" fn ajuqvane_step(
     payload: &[u8],
@@ -376,8 +373,7 @@ pub extern "C" fn ajuqvane_ticks(
     }
 }
 
-// The writer. 0: written, and the answer is the encoding's length. 1 to 11: refused for this reason, and the answer is the place.
-// 12: no number is lent for the answer, and nothing is touched.
+// The writer. 0: the answer is the encoding's length. 1 to 11: refused, and the answer is the place. With no number lent it is refused too.
 #[no_mangle]
 pub extern "C" fn ajuqvane_write(
     list: &[u8],
@@ -388,7 +384,8 @@ pub extern "C" fn ajuqvane_write(
     ensures { λ r. ⌜ record { code = r; held = now (answer .exit); output = now (out .exit); work = now (work .exit) } ≡ sent (now (list .entry)) (now (out .entry)) (now (work .entry)) (now (answer .entry)) ⌝ }
 {
     if answer.len() < 1 {
-        return 12;
+        write::clear(work);
+        return TOO_FEW;
     }
     match write::write(list, out, work) {
         Written::Done(length) => {

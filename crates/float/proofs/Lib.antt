@@ -5,3 +5,4 @@ pub mod Held
 pub mod Laws
 pub mod Zeros
 pub mod Casts
+pub mod OneAnswer

@@ -6,3 +6,4 @@ pub mod FixedLaws
 pub mod PutLaws
 pub mod SignedLaws
 pub mod MinusLaws
+pub mod OneAnswer

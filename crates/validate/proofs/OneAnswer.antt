@@ -1,9 +1,18 @@
--- The contract of `validate` leaves one answer for each input. So it shuts out, among others, a validator that answers 0 whatever it is
--- given (the empty payload's mask is 1), and one that answers 1 whatever it is given (the mask of `02 00` is 0).
+-- No second answer, for the validator. So it shuts out, among others, a validator that answers 0 whatever it is given (the empty payload's
+-- mask is 1), and one that answers 1 whatever it is given (the mask of `02 00` is 0).
 use Prim.Native.Nat.{ℕ}
-use mathlib.Core.Path.{_≡_, sym, _∙_}
 use mathlib.Core.List.{List}
-use Rattle.format.specs.Mask.{mask}
+use Rattle.number.proofs.OneAnswer.{One, one}
+use Rattle.format.specs.declared.Form.{Form}
+use Rattle.format.specs.declared.Stop.{Stop}
+use Rattle.format.specs.Mask.{stopValue, mask}
+use Rattle.validate.specs.FieldNames.{twinsAt}
 
-pub one-answer : (modes : ℕ) (payload : List ℕ) (a b : ℕ) → a ≡ mask modes payload → b ≡ mask modes payload → a ≡ b
-one-answer modes payload a b e f = e ∙ sym f
+pub one-answer : (modes : ℕ) (payload : List ℕ) → One (mask modes payload)
+one-answer modes payload = one (mask modes payload)
+
+pub stop-value-one : (stop : Stop) → One (stopValue stop)
+stop-value-one stop = one (stopValue stop)
+
+pub twins-one : (form : Form) (part : List ℕ) → One (twinsAt form part)
+twins-one form part = one (twinsAt form part)

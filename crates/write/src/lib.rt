@@ -822,7 +822,8 @@ fn put_contents(
 
 // ---- the whole
 
-fn clear(work: &mut [u32])
+// All zero, as a refusal leaves the work numbers.
+pub fn clear(work: &mut [u32])
     ensures { λ r. ⌜ AllZero (now (work .entry)) (now (work .exit)) ⌝ }
 {
     let mut i = 0;

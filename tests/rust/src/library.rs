@@ -37,7 +37,7 @@ foreign!(has_validate, foreign_validate,
     /// The mask.
     fn ajuqvane_validate(modes: u32, payload: *const u8, length: usize) -> u32);
 foreign!(has_varuint, foreign_varuint,
-    /// 0: whole, with value, bytes taken and whether minimal; 1: cut; 2: fewer than 3 answer numbers lent.
+    /// 0: whole, with value, bytes taken and whether minimal; 1: cut; `TOO_FEW`: fewer than 3 answer numbers lent.
     fn ajuqvane_varuint(part: *const u8, length: usize, answer: *mut u64, count: usize) -> u32);
 foreign!(has_is_text, foreign_is_text,
     /// 1 or 0.
@@ -91,7 +91,7 @@ foreign!(has_lookup, foreign_lookup,
 // The writer.
 foreign!(has_write, foreign_write,
     /// 0: written, and the number lent is the encoding's length; 1 to 11: a refusal's number, and the number lent is its place;
-    /// 12: no number is lent.
+    /// `TOO_FEW`: no number is lent.
     fn ajuqvane_write(
         list: *const u8,
         list_length: usize,
@@ -130,9 +130,8 @@ pub const NO_MORE: u32 = 3;
 pub const NOT_THERE: u32 = 5;
 pub const WRONG_KIND: u32 = 6;
 pub const OUT_OF_RANGE: u32 = 7;
-pub const TOO_FEW: u32 = 9;
-/// What the writer answers where no number is lent for its answer.
-pub const NONE_LENT: u32 = 12;
+/// What every call answers that is lent fewer numbers than it may answer.
+pub const TOO_FEW: u32 = 12;
 
 /// The mask.
 #[inline(always)]
@@ -141,7 +140,7 @@ pub fn validate(modes: u32, payload: &[u8]) -> Option<u32> {
     unsafe { foreign_validate::call(modes, payload.as_ptr(), payload.len()) }
 }
 
-/// The VarUInt at the front of a part: 0, 1 or 2, and in the answer its value, the bytes taken, and 1 if it is minimal.
+/// The VarUInt at the front of a part: 0, 1 or `TOO_FEW`, and in the answer its value, the bytes taken, and 1 if it is minimal.
 #[inline(always)]
 pub fn varuint(part: &[u8], answer: &mut [u64]) -> Option<u32> {
     // Safety: each pointer and length are those of a slice, and the one written to is lent mutably.

@@ -101,11 +101,12 @@ pub fn by_library(list: &[u8], output_length: usize, work_length: usize) -> Opti
     Some(broken.map_or(answer, Answer::Broken))
 }
 
-/// The library's answer where no number is lent for it, which is to be 12 with nothing touched: whether it is. None if the
-/// library does not have the call.
+/// The library's answer where no number is lent for it, which is to be 12, as a refusal: the output untouched and all work
+/// numbers zero. Whether it is. None if the library does not have the call.
 pub fn refuses_none_lent(list: &[u8], output_length: usize, work_length: usize) -> Option<bool> {
     let mut output = Room::new(OUTPUT_BEFORE, output_length);
     let mut work = Room::new(WORK_BEFORE, work_length);
     let code = library::write(list, output.lent(), work.lent(), &mut [])?;
-    Some(code == library::NONE_LENT && output.front(0).is_some() && work.front(0).is_some())
+    let zeroed = work.front(work_length).is_some_and(|work| work.iter().all(|number| *number == 0));
+    Some(code == library::TOO_FEW && output.front(0).is_some() && zeroed)
 }

@@ -11,7 +11,7 @@ use ajuqvane_tests::generate::{lists, payloads, places, Random};
 use ajuqvane_tests::independent::places::{check, Place};
 use ajuqvane_tests::independent::write::write;
 use ajuqvane_tests::independent::{float, mask, number, text};
-use ajuqvane_tests::library::{NONE_LENT, TOO_FEW};
+use ajuqvane_tests::library::TOO_FEW;
 use ajuqvane_tests::reading::Reading;
 
 const SEED: u64 = 23;
@@ -149,7 +149,10 @@ impl Requests {
         let mut output = vec![BEFORE as u8; output_length];
         let mut work = vec![BEFORE as u32; work_length];
         let mut expected = match count {
-            0 => given(NONE_LENT, &[], 0),
+            0 => {
+                work.fill(0);
+                given(TOO_FEW, &[], 0)
+            }
             _ => match write(list, &mut output, &mut work) {
                 Ok(length) => given(0, &[length as u64], count),
                 Err(refusal) => given(refusal.number, &[refusal.place as u64], count),
@@ -179,11 +182,13 @@ impl Requests {
         let start = random.below(payload.len() + 1);
         let end = random.between(start, payload.len().min(start + 300));
         let part = payload.get(start..end).unwrap_or(&[]);
+        let count = if random.below(4) == 0 { random.below(3) } else { random.between(3, 5) };
         let answer = match number::read_varuint(part) {
-            Some(number) => given(0, &[number.value, number.taken as u64, u64::from(number.minimal)], 3),
-            None => given(1, &[], 3),
+            _ if count < 3 => given(TOO_FEW, &[], count),
+            Some(number) => given(0, &[number.value, number.taken as u64, u64::from(number.minimal)], count),
+            None => given(1, &[], count),
         };
-        self.ask(random, Call::VarUInt, Arguments { count: 3, ..Arguments::default() }, part, answer);
+        self.ask(random, Call::VarUInt, Arguments { count, ..Arguments::default() }, part, answer);
         self.ask(random, Call::IsText, with(0), part, given(text::is_text(part).into(), &[], 0));
         // The part and itself, or with a bit changed, or cut.
         let mut both = [part, part].concat();

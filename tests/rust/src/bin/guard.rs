@@ -350,9 +350,9 @@ fn write_calls(tally: &mut Tally, random: &mut Random, list: &[u8], pages: &mut 
             let Some(code) = library::write(lent_list, output, work, answer) else { continue };
             let same = match (answer.split_first(), answer.first().and_then(|first| writing::result_of(code, *first))) {
                 (None, _) => {
-                    code == library::NONE_LENT
+                    code == library::TOO_FEW
                         && output.iter().all(|byte| *byte == writing::OUTPUT_BEFORE)
-                        && work.iter().all(|number| *number == writing::WORK_BEFORE)
+                        && work.iter().all(|number| *number == 0)
                 }
                 (Some((_, others)), Some(result)) => {
                     let split = output.split_at_checked(result.unwrap_or(0));

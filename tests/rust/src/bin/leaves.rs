@@ -49,7 +49,7 @@ struct Independent;
 
 impl Leaves for Independent {
     fn varuint(part: &[u8], answer: &mut [u64]) -> Option<u32> {
-        let [value, taken, minimal, ..] = answer else { return Some(2) };
+        let [value, taken, minimal, ..] = answer else { return Some(library::TOO_FEW) };
         let Some(number) = number::read_varuint(part) else { return Some(1) };
         (*value, *taken, *minimal) = (number.value, number.taken as u64, u64::from(number.minimal));
         Some(0)
@@ -167,9 +167,8 @@ fn hold_varuint<L: Leaves>(family: &mut Family, part: &[u8], lent: usize) {
     let mut expected = BEFORE;
     let reference = varuint_reference(part);
     let same = match (lent, reference) {
-        // Of a cut part and too few numbers either may be said.
-        (0..=2, None) => (given == 1 || given == 2) && answer == expected,
-        (0..=2, Some(_)) => given == 2 && answer == expected,
+        // Too few numbers, whatever the part holds.
+        (0..=2, _) => given == library::TOO_FEW && answer == expected,
         (_, None) => given == 1 && answer == expected,
         (_, Some(three)) => {
             expected[..3].copy_from_slice(&three);
