@@ -23,7 +23,8 @@ use Rattle.program.proofs.TextLaws.{decimal-length, bytes-length}
 
 -- ---- what is put at the front of the text
 
-told-by : (x : Outcome) (text t output work : List ℕ) (r : ℕ) → length (printed x) ≤ length text → record { next = r; text = t } ≡ put (printed x) text 0
+told-by : (x : Outcome) (text t output work : List ℕ) (r : ℕ) → length (printed x) ≤ length text
+    → record { next = r; text = t } ≡ put (printed x) text 0
     → record { answer = record { length = r; refused = isRefused x }; text = t; output = output; work = work } ≡ told x text output work
 unfolding put
 told-by x text t output work r h e =
@@ -79,7 +80,8 @@ module _ (s o w text : List ℕ) (room : length o ≡ 65536) (numbers : length w
         → record { answer = record { length = r; refused = false }; text = t; output = p; work = q } ≡ answeredOf (typed s) text o w
     answer-done k r t f = answer-is (record { length = r; refused = false }) t (at (outcome 65536 16384 s) by-outcome)
       where
-        at : (b : Outcome) → record { answer = x; output = p; work = q } ≡ resultOf b o w → record { answer = record { length = r; refused = false }; text = t; output = p; work = q } ≡ told b text p q
+        at : (b : Outcome) → record { answer = x; output = p; work = q } ≡ resultOf b o w
+            → record { answer = record { length = r; refused = false }; text = t; output = p; work = q } ≡ told b text p q
         at (refuse c m) h = absurd (let z : _≡_ {A = ℕ} 0 1 = cc (ap (λ (a : Result). a .answer) h, i) in omega arith)
         at (wrote g z) h =
             let y : n ≡ length g = cc (ap (λ (a : Result). a .answer) h, i) in
@@ -92,7 +94,8 @@ module _ (s o w text : List ℕ) (room : length o ≡ 65536) (numbers : length w
       → record { answer = record { length = r; refused = true }; text = t; output = p; work = q } ≡ answeredOf (typed s) text o w
   answer-refused k m i v j r t f = answer-is (record { length = r; refused = true }) t (at (outcome 65536 16384 s) by-outcome)
     where
-      at : (b : Outcome) → record { answer = x; output = p; work = q } ≡ resultOf b o w → record { answer = record { length = r; refused = true }; text = t; output = p; work = q } ≡ told b text p q
+      at : (b : Outcome) → record { answer = x; output = p; work = q } ≡ resultOf b o w
+          → record { answer = record { length = r; refused = true }; text = t; output = p; work = q } ≡ told b text p q
       at (refuse c y) h =
           let a : c ≡ k = cc (ap (λ (a : Result). a .answer) h, i) in
           let b : y ≡ m = cc (ap (λ (a : Result). a .answer) h, i) in
@@ -118,6 +121,7 @@ module _ (t : Typing) (l text o w : List ℕ) where
   pub held-length : (n : ℕ) → n ≡ min (t .formed) (length l) → n ≡ length (take n l)
   held-length n e = sym (length-take-le n l (omega arith))
 
-  pub answer-typed : (t .begun || t .wrong) ≡ false → (n : ℕ) → n ≡ min (t .formed) (length l) → (a : Answered) → a ≡ answeredOf (typed (take n l)) text o w → a ≡ answered t l text o w
+  pub answer-typed : (t .begun || t .wrong) ≡ false → (n : ℕ) → n ≡ min (t .formed) (length l) → (a : Answered)
+      → a ≡ answeredOf (typed (take n l)) text o w → a ≡ answered t l text o w
   unfolding answered
   answer-typed h n e a f = f ∙ rw (h, e, take-min (t .formed))

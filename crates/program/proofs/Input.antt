@@ -1,4 +1,4 @@
--- What the program answers to what it typed, in any parts, is what `program` prints of all that was read.
+-- What the program answers to what it typed of a whole input is what `program` prints of it.
 use Prim.Native.Nat.{ℕ, _+_, _^_, _≤_, _<_}
 use native.Mathlib.Omega.{arith}
 use mathlib.Core.Path.{_≡_, refl, sym, ap, _∙_}
@@ -9,15 +9,13 @@ use lib.Dec.{ltb}
 use lib.Seq.{take-at, take-all}
 use borrow.Author.Tests.{lt-ltb, ltb-true, ltb-false}
 use Rattle.format.specs.declared.Refusal.the-variants.{ListTooLong}
-use Rattle.format.specs.Encoding.{concat}
 use Rattle.format.specs.Writer.{Outcome, refuse, outcome, Result, resultOf, written}
 use Rattle.format.specs.Program.{Typed, typed, mistyped, printed, programOf, bytesTyped, program}
 use Rattle.hexadecimal.specs.declared.Typing.{Typing}
-use Rattle.hexadecimal.specs.Typing.{Fed, afterwards, start, onward, fed}
-use Rattle.hexadecimal.proofs.Parts.{parts, whole-typed, whole-mistyped}
+use Rattle.hexadecimal.specs.Typing.{Fed, afterwards, start, fed}
+use Rattle.hexadecimal.proofs.Parts.{whole-typed, whole-mistyped}
 use Rattle.hexadecimal.proofs.TypingLaws.{fed-length}
 use Rattle.program.specs.Answer.{typedOf, Answered, told, answeredOf, answered}
-use Rattle.program.specs.Input.{fedParts}
 
 -- ---- a list that is too long, whatever its bytes
 
@@ -34,11 +32,11 @@ both-long a b text o w h i = rw (too-long 65536 16384 a h, too-long 65536 16384 
 
 -- ---- what is printed of what was typed
 
-text-of : (x : Typed) (text o w : List ℕ) → answeredOf x text o w .text ≡ printed (programOf x) ++ drop (length (printed (programOf x))) text
+pub text-of : (x : Typed) (text o w : List ℕ) → answeredOf x text o w .text ≡ printed (programOf x) ++ drop (length (printed (programOf x))) text
 text-of (typed s) text o w = refl
 text-of (mistyped n) text o w = refl
 
-length-of : (x : Typed) (text o w : List ℕ) → answeredOf x text o w .answer .length ≡ length (printed (programOf x))
+pub length-of : (x : Typed) (text o w : List ℕ) → answeredOf x text o w .answer .length ≡ length (printed (programOf x))
 length-of (typed s) text o w = refl
 length-of (mistyped n) text o w = refl
 
@@ -54,14 +52,17 @@ answer-inside t l text o w a f =
 -- ---- the whole
 
 module _ (s l : List ℕ) (h : length s < 2 ^ 64) (room : length l ≡ 65537) where
-  front : (bs : List ℕ) → bytesTyped s ≡ typed bs → typedOf (fed s start l .typing) (fed s start l .list) ≡ typed (take (length bs) (fed s start l .list))
+  front : (bs : List ℕ) → bytesTyped s ≡ typed bs
+      → typedOf (fed s start l .typing) (fed s start l .list) ≡ typed (take (length bs) (fed s start l .list))
   front bs e = ap (λ t. typedOf t (fed s start l .list)) (whole-typed s l bs h e .0)
 
   -- its bytes, where there is room for them; and too many in either case
-  all-typed : (bs text o w : List ℕ) → bytesTyped s ≡ typed bs → answeredOf (typedOf (fed s start l .typing) (fed s start l .list)) text o w ≡ answeredOf (typed bs) text o w
+  all-typed : (bs text o w : List ℕ) → bytesTyped s ≡ typed bs
+      → answeredOf (typedOf (fed s start l .typing) (fed s start l .list)) text o w ≡ answeredOf (typed bs) text o w
   all-typed bs text o w e = ap (λ x. answeredOf x text o w) (front bs e) ∙ at (ltb 65536 (length bs)) refl
     where
-      at : (b : Bool) → ltb 65536 (length bs) ≡ b → answeredOf (typed (take (length bs) (fed s start l .list))) text o w ≡ answeredOf (typed bs) text o w
+      at : (b : Bool) → ltb 65536 (length bs) ≡ b
+          → answeredOf (typed (take (length bs) (fed s start l .list))) text o w ≡ answeredOf (typed bs) text o w
       at false i =
           let z : fed s start l .list ≡ bs ++ drop (length bs) l = whole-typed s l bs h e .1 (omega (arith, ltb-false 65536 (length bs) i)) in
           ap (λ k. answeredOf (typed k) text o w) (ap (take (length bs)) z ∙ take-at bs (drop (length bs) l) (length bs) refl)
@@ -78,7 +79,8 @@ module _ (s l : List ℕ) (h : length s < 2 ^ 64) (room : length l ≡ 65537) wh
   unfolding answered
   in-whole text o w = at (bytesTyped s) refl
     where
-      at : (x : Typed) → bytesTyped s ≡ x → answeredOf (typedOf (fed s start l .typing) (fed s start l .list)) text o w ≡ answeredOf (bytesTyped s) text o w
+      at : (x : Typed) → bytesTyped s ≡ x
+          → answeredOf (typedOf (fed s start l .typing) (fed s start l .list)) text o w ≡ answeredOf (bytesTyped s) text o w
       at (typed bs) e = all-typed bs text o w e ∙ ap (λ x. answeredOf x text o w) (sym e)
       at (mistyped p) e = ap (λ x. answeredOf x text o w) (all-mistyped p e ∙ sym e)
 
@@ -90,31 +92,14 @@ module _ (s l k : List ℕ) (t₀ t : Typing) (i : t₀ ≡ start) (e : afterwar
   pub whole-list : k ≡ fed s start l .list
   whole-list = ap (λ (x : Fed). x .list) from-start
 
-  pub whole-is : length s < 2 ^ 64 → length l ≡ 65537 → (text o w : List ℕ) (a : Answered) → a ≡ answered t k text o w → a ≡ answeredOf (bytesTyped s) text o w
+  pub whole-is : length s < 2 ^ 64 → length l ≡ 65537 → (text o w : List ℕ) (a : Answered) → a ≡ answered t k text o w
+      → a ≡ answeredOf (bytesTyped s) text o w
   whole-is h room text o w a f = f ∙ ap (λ (x : Fed). answered (x .typing) (x .list) text o w) from-start ∙ in-whole s l h room text o w
 
-  pub whole-text : length s < 2 ^ 64 → length l ≡ 65537 → (text o w : List ℕ) (a : Answered) → a ≡ answered t k text o w → a .text ≡ program s ++ drop (a .answer .length) text
+  pub whole-text : length s < 2 ^ 64 → length l ≡ 65537 → (text o w : List ℕ) (a : Answered) → a ≡ answered t k text o w
+      → a .text ≡ program s ++ drop (a .answer .length) text
   unfolding program
   whole-text h room text o w a f =
       let z = whole-is h room text o w a f in
       let n : a .answer .length ≡ length (printed (programOf (bytesTyped s))) = ap (λ (b : Answered). b .answer .length) z ∙ length-of (bytesTyped s) text o w in
       rw n (ap (λ (b : Answered). b .text) z ∙ text-of (bytesTyped s) text o w)
-
--- ---- in parts
-
-joined : (ss : List (List ℕ)) (t : Typing) (l : List ℕ) → fedParts ss t l ≡ fed (concat (λ s. s) ss) t l
-joined [] t l = refl
-joined (s ∷ ss) t l = joined ss (fed s t l .typing) (fed s t l .list) ∙ sym (parts s (concat (λ s. s) ss) t l)
-
-module _ (ss : List (List ℕ)) (l text o w : List ℕ) (h : length (concat (λ s. s) ss) < 2 ^ 64) (room : length l ≡ 65537) where
-  pub in-parts : answered (fedParts ss start l .typing) (fedParts ss start l .list) text o w ≡ answeredOf (bytesTyped (concat (λ s. s) ss)) text o w
-  in-parts = ap (λ (f : Fed). answered (f .typing) (f .list) text o w) (joined ss start l) ∙ in-whole (concat (λ s. s) ss) l h room text o w
-
-  -- what it puts is exactly what the program prints of the whole input, and nothing behind it is touched
-  pub what-is-printed : answered (fedParts ss start l .typing) (fedParts ss start l .list) text o w .text ≡ program (concat (λ s. s) ss) ++ drop (length (program (concat (λ s. s) ss))) text
-  unfolding program
-  what-is-printed = ap (λ (a : Answered). a .text) in-parts ∙ text-of (bytesTyped (concat (λ s. s) ss)) text o w
-
-  pub how-much-is-printed : answered (fedParts ss start l .typing) (fedParts ss start l .list) text o w .answer .length ≡ length (program (concat (λ s. s) ss))
-  unfolding program
-  how-much-is-printed = ap (λ (a : Answered). a .answer .length) in-parts ∙ length-of (bytesTyped (concat (λ s. s) ss)) text o w

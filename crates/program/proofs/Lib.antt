@@ -1,3 +1,4 @@
 pub mod TextLaws
 pub mod AnswerLaws
 pub mod Input
+pub mod InParts

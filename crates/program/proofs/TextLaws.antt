@@ -9,18 +9,13 @@ use lib.ListN.{length, take, getD, set, length-append, length-set}
 use lib.Seq.{sets, length-sets, take-suc, take-all, length-take-le}
 use borrow.Author.Tests.{lt-ltb, le-ltb}
 use lib.Dec.{ltb}
-use Rattle.format.proofs.Lists.{append-nil}
 use Rattle.format.specs.Encoding.{concat}
 use Rattle.format.specs.Program.{hexDigit, hexByte, decimal}
 use Rattle.program.specs.Text.{Put, put}
 
-pub sets-append : (a b l : List ℕ) (i : ℕ) → sets (sets l i a) (i + length a) b ≡ sets l i (a ++ b)
+sets-append : (a b l : List ℕ) (i : ℕ) → sets (sets l i a) (i + length a) b ≡ sets l i (a ++ b)
 sets-append [] b l i = let e : i + 0 ≡ i = omega arith in rw e
 sets-append (x ∷ a) b l i = let e : i + suc (length a) ≡ suc i + length a = omega arith in rw (e, sets-append a b (set l i x) (suc i))
-
-pub concat-snoc : (f : ℕ → List ℕ) (xs : List ℕ) (x : ℕ) → concat f (xs ++ (x ∷ [])) ≡ concat f xs ++ f x
-concat-snoc f [] x = append-nil (f x)
-concat-snoc f (y ∷ xs) x = ap (λ r. f y ++ r) (concat-snoc f xs x) ∙ sym (append-assoc (f y) (concat f xs) (f x))
 
 -- ---- one piece behind the other
 
@@ -28,7 +23,8 @@ pub put-next : (a text end : List ℕ) (at n : ℕ) → record { next = n; text 
 unfolding put
 put-next a text end at n e = ap (λ (p : Put). p .next) e
 
-pub put-then : (a b text mid end : List ℕ) (at n m : ℕ) → record { next = n; text = mid } ≡ put a text at → record { next = m; text = end } ≡ put b mid n
+pub put-then : (a b text mid end : List ℕ) (at n m : ℕ) → record { next = n; text = mid } ≡ put a text at
+    → record { next = m; text = end } ≡ put b mid n
     → record { next = m; text = end } ≡ put (a ++ b) text at
 unfolding put
 put-then a b text mid end at n m e f =
@@ -47,13 +43,15 @@ put-one text at x = refl
 
 -- ---- a word
 
-pub word-on : (word start text : List ℕ) (at i : ℕ) → i < length word → text ≡ sets start at (take i word) → set text (at + i) (getD word i 0) ≡ sets start at (take (i + 1) word)
+pub word-on : (word start text : List ℕ) (at i : ℕ) → i < length word → text ≡ sets start at (take i word)
+    → set text (at + i) (getD word i 0) ≡ sets start at (take (i + 1) word)
 word-on word start text at i h e =
     let n : length (take i word) ≡ i = length-take-le i word (omega arith) in
-    let z : sets (sets start at (take i word)) (at + length (take i word)) (getD word i 0 ∷ []) ≡ sets start at (take i word ++ (getD word i 0 ∷ [])) = sets-append (take i word) (getD word i 0 ∷ []) start at in
+    let z = sets-append (take i word) (getD word i 0 ∷ []) start at in
     rw (e, add-one i, take-suc word i 0 h) (rw n at z)
 
-pub word-end : (word start text : List ℕ) (at i : ℕ) → length word ≤ i → i ≤ length word → text ≡ sets start at (take i word) → record { next = at + i; text = text } ≡ put word start at
+pub word-end : (word start text : List ℕ) (at i : ℕ) → length word ≤ i → i ≤ length word → text ≡ sets start at (take i word)
+    → record { next = at + i; text = text } ≡ put word start at
 unfolding put
 word-end word start text at i h k e = let n : i ≡ length word = omega arith in rw (e, take-all i word h, n)
 
@@ -73,7 +71,9 @@ module _ (d n : ℕ) (text : List ℕ) (at : ℕ) where
 
   pub decimal-more : (d ≡ 0 → ⊥) → 10 ≤ n → (mid : List ℕ) (m : ℕ) → record { next = m; text = mid } ≡ put (decimal (d - 1) (n / 10)) text at
       → record { next = m + 1; text = set mid m (0x30 + n % 10) } ≡ put (decimal d n) text at
-  decimal-more e h mid m i = rw (decimal-suc e, le-ltb n 10 h) (put-then (decimal (d - 1) (n / 10)) ((0x30 + n % 10) ∷ []) text mid (set mid m (0x30 + n % 10)) at m (m + 1) i (put-one mid m (0x30 + n % 10)))
+  decimal-more e h mid m i =
+      rw (decimal-suc e, le-ltb n 10 h)
+      (put-then (decimal (d - 1) (n / 10)) ((0x30 + n % 10) ∷ []) text mid (set mid m (0x30 + n % 10)) at m (m + 1) i (put-one mid m (0x30 + n % 10)))
 
 pub decimal-length : (d n : ℕ) → length (decimal d n) ≤ d
 decimal-length zero n = omega arith
@@ -98,16 +98,22 @@ pub bytes-length : (s : List ℕ) → length (concat hexByte s) ≡ 2 * length s
 bytes-length [] = refl
 bytes-length (b ∷ s) = omega (arith, bytes-length s)
 
-pub bytes-on : (part start text : List ℕ) (i x y : ℕ) → i < length part → text ≡ sets start 0 (concat hexByte (take i part)) → x ≡ hexDigit (getD part i 0 / 16) → y ≡ hexDigit (getD part i 0 % 16)
+bytes-snoc : (s : List ℕ) (b : ℕ) → concat hexByte (s ++ (b ∷ [])) ≡ concat hexByte s ++ hexByte b
+bytes-snoc [] b = refl
+bytes-snoc (x ∷ s) b = rw (bytes-snoc s b, append-assoc)
+
+pub bytes-on : (part start text : List ℕ) (i x y : ℕ) → i < length part → text ≡ sets start 0 (concat hexByte (take i part))
+    → x ≡ hexDigit (getD part i 0 / 16) → y ≡ hexDigit (getD part i 0 % 16)
     → set (set text (2 * i) x) (2 * i + 1) y ≡ sets start 0 (concat hexByte (take (i + 1) part))
 bytes-on part start text i x y h e f g =
     let b = getD part i 0 in
     let s = concat hexByte (take i part) in
     let n : 0 + length s ≡ 2 * i = omega (arith, bytes-length (take i part), length-take-le i part (omega arith)) in
     let k : 2 * i + 1 ≡ suc (2 * i) = omega arith in
-    let z : sets (sets start 0 s) (0 + length s) (hexByte b) ≡ sets start 0 (s ++ hexByte b) = sets-append s (hexByte b) start 0 in
-    rw (e, f, g, k, add-one i, take-suc part i 0 h, concat-snoc hexByte (take i part) b) (rw n at z)
+    let z = sets-append s (hexByte b) start 0 in
+    rw (e, f, g, k, add-one i, take-suc part i 0 h, bytes-snoc (take i part) b) (rw n at z)
 
-pub bytes-end : (part start text : List ℕ) (i : ℕ) → length part ≤ i → i ≤ length part → text ≡ sets start 0 (concat hexByte (take i part)) → record { next = 2 * i; text = text } ≡ put (concat hexByte part) start 0
+pub bytes-end : (part start text : List ℕ) (i : ℕ) → length part ≤ i → i ≤ length part → text ≡ sets start 0 (concat hexByte (take i part))
+    → record { next = 2 * i; text = text } ≡ put (concat hexByte part) start 0
 unfolding put
 bytes-end part start text i h k e = let n : 2 * i ≡ 0 + 2 * length part = omega arith in rw (e, take-all i part h, n, bytes-length part)

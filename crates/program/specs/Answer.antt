@@ -20,6 +20,9 @@ pub record Answered : Type 0 where
   pub output : List ℕ
   pub work : List ℕ
 
+abbrev pub afterwards : Printed → List ℕ → List ℕ → List ℕ → Answered
+afterwards a text output work = record { answer = a; text = text; output = output; work = work }
+
 abbrev pub isRefused : Outcome → Bool
 isRefused (refuse n p) = true
 isRefused (wrote e z) = false
@@ -27,12 +30,7 @@ isRefused (wrote e z) = false
 -- the text's front is all that is printed, with its line end; the rest is as it was
 abbrev pub told : Outcome → List ℕ → List ℕ → List ℕ → Answered
 told o text output work =
-    record {
-      answer = record { length = length (printed o); refused = isRefused o };
-      text = printed o ++ drop (length (printed o)) text;
-      output = output;
-      work = work;
-    }
+    afterwards (record { length = length (printed o); refused = isRefused o }) (printed o ++ drop (length (printed o)) text) output work
 
 -- the writer is called on what is well typed alone
 abbrev pub answeredOf : Typed → List ℕ → List ℕ → List ℕ → Answered

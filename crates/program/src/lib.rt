@@ -5,6 +5,8 @@ use libc::STDERR_FILENO;
 use libc::STDIN_FILENO;
 use libc::STDOUT_FILENO;
 ghost use mathlib.Core.Path.{_≡_};
+ghost use mathlib.Core.Bool.{cond};
+ghost use mathlib.Core.Logic.{_⊎_};
 ghost use mathlib.Core.List.{[], _∷_, _++_};
 ghost use Prim.Native.Nat.{_+_, _*_, _≤_, _<_, min};
 ghost use lib.ListN.{length, drop};
@@ -12,7 +14,8 @@ ghost use Rattle.format.specs.Encoding.{concat};
 ghost use Rattle.format.specs.Program.{hexDigit, hexByte, decimal, wordRefused, wordAt, lineEnd, typed, bytesTyped, program};
 ghost use Rattle.hexadecimal.specs.Typing.{start, fed};
 ghost use Rattle.program.specs.Text.{put};
-ghost use Rattle.program.specs.Answer.{answeredOf, answered};
+ghost use Rattle.program.specs.Answer.{afterwards, answeredOf, answered};
+ghost use Rattle.program.specs.Input.{Heard, Ran};
 
 // What the program lends. A list has at most 65,536 bytes, and one byte more tells one that is longer.
 pub const LIST: usize = 65537;
@@ -113,7 +116,7 @@ fn put_encoding(encoding: &[u8], text: &mut [u8]) -> usize
 // What the program answers to a list.
 fn answer_to(list: &[u8], out: &mut [u8], numbers: &mut [u32], text: &mut [u8]) -> Printed
     requires { ⌜ (length (now out) ≡ 65536) × (length (now numbers) ≡ 16384) × (length (now text) ≡ 131073) ⌝ }
-    ensures { λ r. ⌜ record { answer = r; text = now (text .exit); output = now (out .exit); work = now (numbers .exit) } ≡ answeredOf (typed (now (list .entry))) (now (text .entry)) (now (out .entry)) (now (numbers .entry)) ⌝ }
+    ensures { λ r. ⌜ afterwards r (now (text .exit)) (now (out .exit)) (now (numbers .exit)) ≡ answeredOf (typed (now (list .entry))) (now (text .entry)) (now (out .entry)) (now (numbers .entry)) ⌝ }
 {
     match write::write(list, out, numbers) {
         Written::Done(size) => {
@@ -151,7 +154,7 @@ pub fn answer(
     numbers: &mut [u32; NUMBERS],
     text: &mut [u8; TEXT],
 ) -> Printed
-    ensures { λ r. ⌜ record { answer = r; text = now (text .exit); output = now (out .exit); work = now (numbers .exit) } ≡ answered typing (now (list .entry)) (now (text .entry)) (now (out .entry)) (now (numbers .entry)) ⌝ }
+    ensures { λ r. ⌜ afterwards r (now (text .exit)) (now (out .exit)) (now (numbers .exit)) ≡ answered typing (now (list .entry)) (now (text .entry)) (now (out .entry)) (now (numbers .entry)) ⌝ }
 {
     if typing.begun | typing.wrong {
         let length = put_refused(2, typing.formed, text);
@@ -174,7 +177,7 @@ pub fn whole(
     text: &mut [u8; TEXT],
 ) -> Printed
     ensures { λ r. ⌜ now (text .exit) ≡ program (now (input .entry)) ++ drop (r .length) (now (text .entry)) ⌝ }
-    ensures { λ r. ⌜ record { answer = r; text = now (text .exit); output = now (out .exit); work = now (numbers .exit) } ≡ answeredOf (bytesTyped (now (input .entry))) (now (text .entry)) (now (out .entry)) (now (numbers .entry)) ⌝ }
+    ensures { λ r. ⌜ afterwards r (now (text .exit)) (now (out .exit)) (now (numbers .exit)) ≡ answeredOf (bytesTyped (now (input .entry))) (now (text .entry)) (now (out .entry)) (now (numbers .entry)) ⌝ }
     ensures { λ r. ⌜ now (list .exit) ≡ fed (now (input .entry)) start (now (list .entry)) .list ⌝ }
 {
     let typing = hexadecimal::feed(input, hexadecimal::nothing(), list);
@@ -189,16 +192,11 @@ pub enum Reading {
     Failed,
 }
 
-// Types on. The list keeps its length.
-fn type_on(part: &[u8], typing: Typing, list: &mut [u8]) -> Typing
-    ensures { λ r. ⌜ length (now (list .exit)) ≡ length (now (list .entry)) ⌝ }
-{
-    hexadecimal::feed(part, typing, list)
-}
-
 // Reads all of the input, in parts that go through `chunk`. A proved loop has to end, so it counts its turns down, from a number that no run
 // uses up.
-fn read_all(chunk: &mut [u8], list: &mut [u8]) -> Reading {
+fn read_all(chunk: &mut [u8], list: &mut [u8]) -> Reading
+    ensures { λ r. ⌜ Heard r (now (list .entry)) (now (list .exit)) ⌝ }
+{
     let mut typing = hexadecimal::nothing();
     let mut turns = u64::MAX;
     while turns > 0 {
@@ -210,7 +208,7 @@ fn read_all(chunk: &mut [u8], list: &mut [u8]) -> Reading {
         if n == 0 {
             return Reading::Typed(typing);
         }
-        typing = type_on(&chunk[..n], typing, list);
+        typing = hexadecimal::feed(&chunk[..n], typing, list);
         turns -= 1;
     }
     Reading::Failed
@@ -219,7 +217,7 @@ fn read_all(chunk: &mut [u8], list: &mut [u8]) -> Reading {
 // Writes the answer. A refusal has the exit status 1, and an answer that cannot be written 2.
 fn print(printed: Printed, text: &[u8]) -> u32
     requires { ⌜ printed .length ≤ length (now text) ⌝ }
-    ensures { λ r. ⌜ r ≤ 2 ⌝ }
+    ensures { λ r. ⌜ (r ≡ cond (printed .refused) 1 0) ⊎ (r ≡ 2) ⌝ }
 {
     let length = printed.length;
     if io::write_all(STDOUT_FILENO, &text[..length]) {
@@ -238,7 +236,7 @@ fn run(
     numbers: &mut [u32; NUMBERS],
     text: &mut [u8; TEXT],
 ) -> u32
-    ensures { λ r. ⌜ r ≤ 2 ⌝ }
+    ensures { λ r. ⌜ Ran r (now (text .exit)) ⊎ (r ≡ 2) ⌝ }
 {
     match read_all(text, list) {
         Reading::Typed(typing) => {

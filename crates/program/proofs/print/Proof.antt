@@ -1,5 +1,6 @@
 use borrow.Author.Needs.{needs}
-use mathlib.Core.Path.{sym}
+use mathlib.Core.Path.{refl, sym}
+use mathlib.Core.Logic.{inl, inr}
 use lib.Seq.{length-take-le}
 use Rattle.program.proofs.print.Statement.{statement}
 use Rattle.program.proofs.print.Tie as tie
@@ -13,8 +14,8 @@ print-spec =
     (tie.spec
     (λ c. sym (length-take-le _ _ (search needs)))
     (λ c κs. search needs)
-    (λ c. search needs)
-    (λ c. search needs)
+    (λ c. inl (rw (c .if2 .taken)))
+    (λ c. inl (rw (c .if2 .left)))
     (λ c. search needs)
     (λ c κs. search needs)
-    (λ c. search needs))
+    (λ c. inr refl))
