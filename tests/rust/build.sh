@@ -1,7 +1,7 @@
 # Sourced by the scripts: builds the static library, if the repository has the crate cabi, the program that writes a list, if it
-# has the crate write_list, and programs of a Rust package.
+# has the crate program, and programs of a Rust package.
 #
-# tests/staticlib says how the archive for this processor, target/native/libcabi.a, is made.
+# tests/staticlib says how the archives for this processor, target/native/libcabi.a and libprogram.a, are made.
 
 repository="$(cd "$(dirname "${BASH_SOURCE[0]}")/../.." && pwd)"
 export CARGO_TARGET_DIR="$repository/target/rust"
@@ -16,16 +16,16 @@ build_library() {
     is_fresh "$repository/target/native/libcabi.a" || "$repository/tests/staticlib" >/dev/null
 }
 
-# The program is for x86-64, and runs under the kit's loader and C library as `rt` runs it. WRITE_LIST tells
-# tests/rust/src/program.rs how: the words of the command, each on a line.
+# WRITE_LIST tells tests/rust/src/program.rs where the program is.
 build_program() {
-    [ -d "$repository/crates/write_list" ] || return 0
-    local program="$repository/target/bin/write_list" tools
-    is_fresh "$program" || (cd "$repository" && rt check write_list >&2)
-    tools="$(kit_tools)"
-    WRITE_LIST=$(printf '%s\n' "$tools/lib/ld-linux-x86-64.so.2" --library-path "$tools/lib" "$program")
-    [ "$(uname -m)" = x86_64 ] || WRITE_LIST=$tools/bin/qemu-x86_64$'\n'$WRITE_LIST
+    [ -d "$repository/crates/program" ] || return 0
+    local archive="$repository/target/native/libprogram.a" source="$repository/programs/write_list.c"
+    WRITE_LIST="$repository/target/native/write_list"
     export WRITE_LIST
+    is_fresh "$archive" || "$repository/tests/staticlib" program >/dev/null
+    if [ ! "$WRITE_LIST" -nt "$archive" ] || [ ! "$WRITE_LIST" -nt "$source" ]; then
+        cc -std=c99 -O2 -Wall -Wextra -Werror "$source" "$archive" -o "$WRITE_LIST"
+    fi
 }
 
 # The folder of the kit's compiler, linker, emulator and C library.

@@ -126,7 +126,7 @@ one-length c t l = at (t .wrong) (t .begun) (told c)
 pub keeps-length : (c : ℕ) (t r : Typing) (l k : List ℕ) → afterwards r k ≡ fedOne c t l → length k ≡ length l
 keeps-length c t r l k e = ap (λ a. length (a .list)) e ∙ one-length c t l
 
-fed-length : (s : List ℕ) (t : Typing) (l : List ℕ) → length (fed s t l .list) ≡ length l
+pub fed-length : (s : List ℕ) (t : Typing) (l : List ℕ) → length (fed s t l .list) ≡ length l
 fed-length [] t l = refl
 fed-length (c ∷ s) t l = fed-length s (fedOne c t l .typing) (fedOne c t l .list) ∙ one-length c t l
 

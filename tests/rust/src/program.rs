@@ -1,7 +1,6 @@
-//! The program that writes a list from its standard input: target/bin/write_list, a process for each question.
+//! The program that writes a list from its standard input: target/native/write_list, a process for each question.
 //!
-//! The scripts say by the environment how it is run: WRITE_LIST is the words of the command, each on a line. Without it there is
-//! no program.
+//! The scripts say by the environment where it is: WRITE_LIST. Without it there is no program.
 
 use std::io::Write;
 use std::process::{Command, Stdio};
@@ -9,11 +8,7 @@ use std::process::{Command, Stdio};
 use crate::cases::Answer;
 
 fn command() -> Option<Command> {
-    let words = std::env::var("WRITE_LIST").ok()?;
-    let mut words = words.lines();
-    let mut command = Command::new(words.next()?);
-    command.args(words);
-    Some(command)
+    std::env::var_os("WRITE_LIST").map(Command::new)
 }
 
 /// Whether there is a program.
@@ -21,7 +16,8 @@ pub fn is_there() -> bool {
     command().is_some()
 }
 
-/// What the program prints for an input, without its line end, which has to be there. None if there is no program.
+/// What the program prints for an input, without its line end, which has to be there. The exit status has to be 1 for a refusal and
+/// 0 for anything else. None if there is no program.
 pub fn answer(input: &[u8]) -> Option<Answer> {
     let mut command = command()?;
     Some(printed(&mut command, input).unwrap_or_else(|error| Answer::Broken(format!("{command:?}: {error}"))))
@@ -37,7 +33,9 @@ fn printed(command: &mut Command, input: &[u8]) -> std::io::Result<Answer> {
         child.wait_with_output()
     })?;
     Ok(match output.stdout.split_last() {
-        Some((b'\n', line)) if output.stderr.is_empty() && output.status.code() == Some(0) => {
+        Some((b'\n', line))
+            if output.stderr.is_empty() && output.status.code() == Some(i32::from(line.starts_with(b"refused "))) =>
+        {
             Answer::Printed(String::from_utf8_lossy(line).into_owned())
         }
         _ => Answer::Broken(format!("{output:?}")),

@@ -1,0 +1,4 @@
+pub mod TextLaws
+pub mod AnswerLaws
+pub mod Input
+pub mod InParts

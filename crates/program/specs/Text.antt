@@ -1,0 +1,13 @@
+-- What is put into the text that the program writes, and where the next character goes.
+use Prim.Native.Nat.{ℕ, _+_}
+use mathlib.Core.List.{List}
+use lib.ListN.{length}
+use lib.Seq.{sets}
+
+pub record Put : Type 0 where
+  pub next : ℕ
+  pub text : List ℕ
+
+-- characters one behind the other
+unfoldable pub put : List ℕ → List ℕ → ℕ → Put
+put s text at = record { next = at + length s; text = sets text at s }
