@@ -31,3 +31,5 @@ pub mod TopCases
 pub mod Spelling
 pub mod Walk
 pub mod WalkExample
+pub mod PassedPlaces
+pub mod Bounds
