@@ -2,12 +2,10 @@
 use Prim.Native.Nat.{ℕ, zero, suc, _+_, _≤_, _<_}
 use native.Mathlib.Omega.{arith}
 use mathlib.Core.Path.{_≡_, refl, sym, ap, _∙_}
-use mathlib.Core.Bool.{Bool, true, false, cond}
-use mathlib.Core.Option.{Option, none, some}
-use mathlib.Core.List.{List, [], _∷_, _++_}
+use mathlib.Core.Bool.{Bool, true, false}
+use mathlib.Core.List.{List, [], _∷_}
 use lib.ListN.{length}
 use lib.Seq.{slice}
-use lib.Dec.{eqb}
 use Rattle.text.specs.Equal.{equal}
 use Rattle.format.specs.declared.Kind.{Kind}
 use Rattle.format.specs.declared.Form.{Form}
@@ -20,8 +18,8 @@ use Rattle.format.specs.declared.Step.the-variants.{Field, NoMore, Wrong
 use Rattle.format.specs.declared.Found.{Found}
 use Rattle.format.specs.declared.Found.the-variants as F
 use Rattle.format.specs.Parse.{Flaw, Out, fault, got, withFlaws, bind, fill}
-use Rattle.format.specs.Payload.{Head, front, head}
-use Rattle.format.specs.Reader.{Standing, Named, Layout, contents, readNode, readField, read}
+use Rattle.format.specs.Payload.{front, head}
+use Rattle.format.specs.Reader.{contents, readNode, read}
 use Rattle.format.specs.Places.{step, lookAt, lookFrom}
 use Rattle.format.specs.Stepping.{Event, eventsAt, stepsFrom}
 use Rattle.format.proofs.Back.{never}
@@ -29,7 +27,7 @@ use Rattle.format.proofs.Local.{bind-got, whole-got}
 use Rattle.format.proofs.HeadParts.{Full}
 use Rattle.format.proofs.FieldBytes.{field-takes}
 use Rattle.format.specs.Siblings.{placesAt, placesFrom, placesIn}
-use Rattle.format.proofs.PassedPlaces.{Onward, behind, step-onward}
+use Rattle.format.proofs.PassedPlaces.{behind, step-onward}
 
 -- ---- fields that fill a part: a reader that uses up a byte at least where it reads
 
