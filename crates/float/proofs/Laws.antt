@@ -26,7 +26,7 @@ module _ (b : ℕ) (h : b < 2 ^ 64) (n : isNan64 b ≡ false) (k : holds b ≡ t
   unfolding narrow
   narrow-lt = toBits-lt binary32 (ofBits binary64 b) (held-fits b k)
 
-  back : ofBits binary32 (narrow b) ≡ ofBits binary64 b
+  pub back : ofBits binary32 (narrow b) ≡ ofBits binary64 b
   unfolding narrow
   back = ofBits-toBits binary32 (ofBits binary64 b) (held-fits b k)
 
@@ -49,7 +49,7 @@ module _ (b : ℕ) (h : b < 2 ^ 32) (n : isNan32 b ≡ false) where
   wide : T (fits binary64 (ofBits binary32 b))
   wide = fits-widens (ofBits binary32 b) (ofBits-fits binary32 b)
 
-  forth : ofBits binary64 (widen b) ≡ ofBits binary32 b
+  pub forth : ofBits binary64 (widen b) ≡ ofBits binary32 b
   forth = ap (ofBits binary64) widen-is ∙ ofBits-toBits binary64 (ofBits binary32 b) wide
 
   pub widen-lt : widen b < 2 ^ 64

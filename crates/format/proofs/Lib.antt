@@ -33,3 +33,8 @@ pub mod TopCases
 pub mod Spelling
 pub mod Walk
 pub mod WalkExample
+pub mod PassedPlaces
+pub mod Siblings
+pub mod SiblingsExample
+pub mod Views
+pub mod Bounds

@@ -47,7 +47,7 @@ pub record ReadAt (d : ℕ) (s : List ℕ) (c : Place) (x : Standing (Node (Stan
   pub header : head (x .0) bytes ≡ got above above-flaws []
   pub body : contents (read d) above ≡ got (x .1) body-flaws []
 
-size-le : (k : Kind) (b : List ℕ) → sizeLength (Is k) b ≤ length b
+pub size-le : (k : Kind) (b : List ℕ) → sizeLength (Is k) b ≤ length b
 size-le k b = go (hasSize k) (varUInt b) refl
   where
     go : (x : Bool) (o : VarUInt) → varUInt b ≡ o → cond x (taken o) 0 ≤ length b
@@ -97,6 +97,7 @@ pub record MetAt (d : ℕ) (s : List ℕ) (depth e : ℕ) (f : Form) (at : ℕ) 
   pub before : Stood f (x .1 .0) (x .0) (slice at name-start s)
   pub begins : at ≤ name-start
   pub then-name : name-start ≤ place .start
+  pub name-ends : place .start ≡ name-start + length (x .0)
   pub then-payload : place .start ≤ place .end
   pub some-byte : at < place .end
   pub after : Part s (place .end) u
@@ -146,6 +147,7 @@ field-met d s depth e f at r x fs u full pr el dl dp h =
           before = rw (part-slice (at + length (n .0)) (n .0) (part-left (n .0) (y .0 ++ q) p₀) refl) (n .2);
           begins = omega arith;
           then-name = omega arith;
+          name-ends = omega arith;
           then-payload = omega arith;
           some-byte = omega arith;
           after = part-to (part-right (l .0) u p₂) (omega arith);

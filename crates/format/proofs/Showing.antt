@@ -24,6 +24,7 @@ use Rattle.format.specs.Tree.{Node, atom, array, object}
 use Rattle.format.specs.Payload.{payload, Head, value, fieldsIn, itemsIn, front, head}
 use Rattle.format.specs.Reader.{Standing, Named, Layout, kindsIn, namesIn, isTyped, contents, readNode, read}
 use Rattle.format.specs.Places.{check, checked, meet, top, from, stepIn, step, lookup}
+use Rattle.format.specs.Contents.{contentsStart}
 use Rattle.format.specs.Values.{other}
 use Rattle.format.specs.Show.{Answered, ShownFields, unnamed, ShownNode, Shown}
 use Rattle.format.proofs.Lists.{append-nil}
@@ -63,6 +64,16 @@ items-unnamed : (d : ℕ) (f : Form) → Unnamed f → (r : List ℕ) (xs : List
 items-unnamed d f o r [] run = refl
 items-unnamed d f o r (x ∷ xs) run = rw (items-unnamed d f o (run .1) xs (run .3)) (ap (λ (n : List ℕ). (n, x .1) ∷ xs) (sym (read-unnamed d f r o (run .2))))
 
+-- ---- where the contents begin
+
+fields-start : (s : List ℕ) (c : Place) (f : Form) (b : List ℕ) (fs : List Flaw) (r : List ℕ) → check s c ≡ got (fieldsIn f b) fs r → contentsStart s c ≡ c .end - length b
+unfolding contentsStart
+fields-start s c f b fs r e = rw e
+
+items-start : (s : List ℕ) (c : Place) (f : Form) (n : ℕ) (b : List ℕ) (fs : List Flaw) (r : List ℕ) → check s c ≡ got (itemsIn f n b) fs r → contentsStart s c ≡ c .end - length b
+unfolding contentsStart
+items-start s c f n b fs r e = rw e
+
 -- ---- a field shown
 
 shown-node : (d : ℕ) (s : List ℕ) (c : Place) (x : Standing (Node (Standing (Layout d)))) → length s ≤ lengthLimit → ((p : Place) (y : Standing (Layout d)) → Read d s p y → Shown d s p y) → ReadAt d s c x
@@ -71,8 +82,8 @@ unfolding step lookup
 shown-node d s c x m rec i = go (i .above) (x .1) (i .body) (found m i) (head-body (x .0) (i .bytes) (i .header)) (head-contained (x .0) (i .bytes) (i .header)) (i .header)
   where
     shown-fields : (f : Form) (b : List ℕ) (xs : List (Named (Standing (Layout d)))) (Counted : List Kind → Type 0) → ((l : After) → step s c l ≡ stepIn s c f (c .end - length b) (from (c .end - length b) l))
-        → Full f → Holds (x .0) (i .bytes) f b [] Counted → Counted (kindsIn xs) → Answered other s c → Run (read d f) b xs → ShownFields (Shown d s) s (x .0) c xs
-    shown-fields f b xs Counted ok full k n a run =
+        → contentsStart s c ≡ c .end - length b → Full f → Holds (x .0) (i .bytes) f b [] Counted → Counted (kindsIn xs) → Answered other s c → Run (read d f) b xs → ShownFields (Shown d s) s (x .0) c xs
+    shown-fields f b xs Counted ok st full k n a run =
         let e : i .bytes ≡ k .opening ++ b = rw (append-nil b) at (k .splits) in
         let lw : length (i .bytes) ≡ length (k .opening) + length b = simp length-append at (ap length e) in
         let at = c .end - length b in
@@ -80,7 +91,7 @@ shown-node d s c x m rec i = go (i .above) (x .1) (i .body) (found m i) (head-bo
         let po : slice (c .start) at s ≡ k .opening = part-slice at (k .opening) (part-left (k .opening) b (part-is (i .there) e)) (omega (arith, i .ends)) in
         let lb : c .end - at ≡ length b = omega (arith, i .ends) in
         let t = walk s c (payload (x .0)) f b full (k .stands) ok d rec Start at b xs (i .levels) run pb (omega (arith, i .ends)) (omega arith) refl in
-        record { places = t .0; contents = at; inside = omega (arith, i .ends); opens = rw (po, lb) (k .opens (kindsIn xs) n (run-shares d f b xs run)); walk = t .1; answered = a }
+        record { places = t .0; contents = at; starts = st; inside = omega (arith, i .ends); opens = rw (po, lb) (k .opens (kindsIn xs) n (run-shares d f b xs run)); walk = t .1; answered = a }
 
     go : (h : Head) (t : Node (Standing (Layout d))) → contents (read d) h ≡ got t (i .body-flaws) [] → check s c ≡ got h (i .above-flaws) [] → Body (i .bytes) h [] → Contained (x .0) (i .bytes) h []
         → head (x .0) (i .bytes) ≡ got h (i .above-flaws) [] → ShownNode (Shown d s) s (x .0) c t
@@ -98,7 +109,7 @@ shown-node d s c x m rec i = go (i .above) (x .1) (i .body) (found m i) (head-bo
         let z : array (map (λ x. x .1) xs) ≡ t = cc in
         let y : q ≡ [] = cc in
         let run = run-many (read d f) n b xs es (rw y at j) in
-        let w = shown-fields f b xs (λ ks. length ks ≡ n) (λ l. rw ok) (o .1) (k .1) (many-counts (λ x. x .1 .0) (read d f) n b j) (items-answered s c (i .above-flaws) f n b ok) run in
+        let w = shown-fields f b xs (λ ks. length ks ≡ n) (λ l. rw ok) (items-start s c f n b (i .above-flaws) [] ok) (o .1) (k .1) (many-counts (λ x. x .1 .0) (read d f) n b j) (items-answered s c (i .above-flaws) f n b ok) run in
         subst (ShownNode (Shown d s) s (x .0) c) z (record {
           is-array = k .0;
           items = subst (ShownFields (Shown d s) s (x .0) c) (sym (items-unnamed d f (k .2) b xs run)) w;
@@ -109,7 +120,7 @@ shown-node d s c x m rec i = go (i .above) (x .1) (i .body) (found m i) (head-bo
         raise-got (isTyped f && isUniform (kindsIn xs)) notUniform (raise (twins (namesIn xs)) twin (got (object xs) [] q)) l λ _ l′.
         raise-got (twins (namesIn xs)) twin (got (object xs) [] q) l′ λ _ l″.
         let z : object xs ≡ t = cc in
-        let w = shown-fields f b xs (λ ks. Unit {0}) (λ l. rw ok) (o .1) (k .1) tt (fields-answered s c (i .above-flaws) f b ok) (run-fill (read d f) (length b) b xs es q j) in
+        let w = shown-fields f b xs (λ ks. Unit {0}) (λ l. rw ok) (fields-start s c f b (i .above-flaws) [] ok) (o .1) (k .1) tt (fields-answered s c (i .above-flaws) f b ok) (run-fill (read d f) (length b) b xs es q j) in
         let few = walk-few (Shown d s) s c (payload (x .0)) (w .contents) Start (w .places) xs (w .walk) in
         subst (ShownNode (Shown d s) s (x .0) c) z (record {
           is-object = k .0;

@@ -70,6 +70,7 @@ module _ (s : List ℕ) (c : Place) (how : Payload) (f : Form) (b : List ℕ) (f
             before = turn (x .1 .0) (x .0) (slice at (i .name-start) s) (i .before);
             begins = i .begins;
             then-name = i .then-name;
+            name-ends = i .name-ends;
             then-payload = i .then-payload;
             within = omega (arith, i .left);
             some-byte = i .some-byte;

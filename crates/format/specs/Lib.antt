@@ -8,9 +8,12 @@ pub mod Payload
 pub mod Reader
 pub mod Mask
 pub mod Places
+pub mod Contents
 pub mod Values
 pub mod Show
 pub mod Stepping
+pub mod Siblings
+pub mod Views
 pub mod WriteList
 pub mod Writer
 pub mod Program

@@ -36,6 +36,7 @@ use Rattle.format.specs.Tree.{Float, number, nan32, nan64, Leaf, null, b
 use Rattle.format.specs.Payload.{Payload, leaf, fields, sharedFields, items, sharedItems, payload}
 use Rattle.format.specs.Reader.{Standing, Named, Layout, tree, kindsIn, read, treeOf}
 use Rattle.format.specs.Places.{checked, top, step, nameView, view, lookup}
+use Rattle.format.specs.Contents.{contentsStart}
 use Rattle.format.specs.Values.{Sort, whole, real, time, other, sortOf, floatBits, double, signed, unsigned, ticks}
 
 -- ---- a leaf
@@ -128,6 +129,7 @@ pub record Meets {A : Type 0} (Shows : Place → Standing A → Type 0) (s : Lis
   pub before : Before how (x .1 .0) (x .0) (slice a name-start s)
   pub begins : a ≤ name-start
   pub then-name : name-start ≤ q .start
+  pub name-ends : q .start ≡ name-start + length (x .0)
   pub then-payload : q .start ≤ q .end
   pub within : q .end ≤ c .end
   pub some-byte : a < q .end
@@ -150,6 +152,7 @@ firstOf m (q ∷ ps) (x ∷ xs) = cond (equal (x .0) m) (F.At q) (firstOf m ps x
 pub record ShownFields {A : Type 0} (Shows : Place → Standing A → Type 0) (s : List ℕ) (k : Kind) (c : Place) (xs : List (Named (Standing A))) : Type 0 where
   pub places : List Place
   pub contents : ℕ
+  pub starts : contentsStart s c ≡ contents
   pub inside : c .start ≤ contents
   pub opens : Opens (payload k) (kindsIn xs) (c .end - contents) (slice (c .start) contents s)
   pub walk : Walk Shows s c (payload k) contents Start places xs

@@ -1,12 +1,12 @@
 -- Of any payload, at fault or not, and any place, forged or not: a field that a step gives lies in its container, behind the last one, one deeper, and its
 -- place passes the check.
-use Prim.Native.Nat.{ℕ, suc, _+_, _-_, _≤_, _<_}
+use Prim.Native.Nat.{ℕ, _+_, _-_, _≤_}
 use native.Mathlib.Omega.{arith}
-use mathlib.Core.Path.{_≡_, refl, sym, ap, _∙_, subst}
+use mathlib.Core.Path.{_≡_, refl, ap, subst}
 use mathlib.Core.Bool.{Bool, true, false, _||_, cond}
-use mathlib.Core.List.{List, [], _∷_, _++_, append-assoc}
-use lib.ListN.{length, drop, take, length-append, take-append-drop}
-use lib.Seq.{slice, length-slice, take-take, length-take-le}
+use mathlib.Core.List.{List, [], _++_}
+use lib.ListN.{length, length-append}
+use lib.Seq.{slice, length-slice}
 use lib.Dec.{eqb, ltb}
 use borrow.Author.Tests.{le-ltb, ltb-false, ne-eqb}
 use Rattle.format.specs.declared.Kind.{Kind}
@@ -14,7 +14,7 @@ use Rattle.format.specs.declared.Form.{Form}
 use Rattle.format.specs.declared.Stop.the-variants.{Early, TooDeep}
 use Rattle.format.specs.declared.Place.{Place}
 use Rattle.format.specs.declared.After.{After}
-use Rattle.format.specs.declared.After.the-variants.{Start, Last}
+use Rattle.format.specs.declared.After.the-variants.{Last}
 use Rattle.format.specs.declared.Checked.the-variants as C
 use Rattle.format.specs.declared.Step.the-variants as St
 use Rattle.format.specs.Limits.{depthLimit, lengthLimit}
@@ -26,8 +26,8 @@ use Rattle.format.proofs.Lists.{append-nil}
 use Rattle.format.proofs.KindLaws.{known-rt}
 use Rattle.format.proofs.Local.{bind-got}
 use Rattle.format.proofs.HeadParts.{local-head, front-takes, head-body}
+use Rattle.format.proofs.PassedPlaces.{slice-part}
 use Rattle.format.proofs.Parts.{Part, part-to, part-is, part-left, part-right, part-slice}
-use Rattle.read.specs.declared.Opened.{Opened}
 use Rattle.read.specs.declared.Opened.the-variants as O
 use Rattle.read.proofs.OpenLaws.{Sound, sound-fields, sound-items, check-got}
 
@@ -49,19 +49,6 @@ record Standing (s : List ℕ) (d e at : ℕ) (q : Place) (name : ℕ) : Type 0 
   order : q .start ≤ q .end
   within : q .end ≤ e
   deep : q .depth ≡ d
-
-slice-part : (s : List ℕ) (a e : ℕ) → a ≤ e → e ≤ length s → Part s a (slice a e s)
-slice-part s a e h k = record {
-  pre = take a s;
-  post = drop e s;
-  joined = sym (
-      sym (append-assoc (take a s) (slice a e s) (drop e s))
-      ∙ ap (λ t. (t ++ slice a e s) ++ drop e s) (sym (take-take a e s h))
-      ∙ ap (λ t. t ++ drop e s) (take-append-drop a (take e s))
-      ∙ take-append-drop e s
-      );
-  place = length-take-le a s (omega arith);
-}
 
 -- a place whose bytes are v passes the check where v is a payload of its kind
 passes : (s : List ℕ) (p : Place) (k : Kind) (v : List ℕ) (h : Head) (gs : List Flaw) → length s ≤ lengthLimit → p .start ≤ p .end → p .end ≤ length s → 1 ≤ p .depth → p .depth ≤ depthLimit

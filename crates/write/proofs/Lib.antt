@@ -22,3 +22,8 @@ pub mod Describable
 pub mod ListLength
 pub mod Writable
 pub mod Beyond
+mod FramesLocal
+mod FrameParts
+pub mod Refusals
+pub mod RefusedPlaces
+pub mod WrittenAs

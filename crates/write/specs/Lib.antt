@@ -3,3 +3,4 @@ pub mod Frames
 pub mod Passes
 pub mod Whole
 pub mod Describe
+pub mod Refused
