@@ -10,6 +10,8 @@ pub mod Mask
 pub mod Places
 pub mod Values
 pub mod Show
+pub mod Flawed
+pub mod Spells
 pub mod Stepping
 pub mod WriteList
 pub mod Writer
