@@ -147,12 +147,12 @@ module _ {C : List Flaw → Type 0} (clean : Clean C) {Num : ℕ → List ℕ �
 
   -- ---- every layer
 
-  some-field : (d : ℕ) (x : Named (Standing (Layout d))) (w : List ℕ) → Spells Num d Field x w → 1 ≤ length w
+  pub some-field : (d : ℕ) (x : Named (Standing (Layout d))) (w : List ℕ) → Spells Num d Field x w → 1 ≤ length w
   some-field zero x w i = absurd i
   some-field (suc d) x w i = omega (arith, simp length-append at (ap length (i .2)), ap length (i .3 .1))
 
   module _ (num-some : (v : ℕ) (u : List ℕ) → Num v u → 1 ≤ length u) where
-    some-shared : (d : ℕ) (k : Kind) (x : Named (Standing (Layout d))) (w : List ℕ) → Spells Num d (SharedField k) x w → 1 ≤ length w
+    pub some-shared : (d : ℕ) (k : Kind) (x : Named (Standing (Layout d))) (w : List ℕ) → Spells Num d (SharedField k) x w → 1 ≤ length w
     some-shared zero k x w i = absurd i
     some-shared (suc d) k x w i = omega (arith, simp length-append at (ap length (i .2)), simp length-append at (ap length (i .3 .1 .2)), num-some _ _ (i .3 .1 .3))
 

@@ -22,6 +22,14 @@ pub mod GrammarContents
 pub mod GrammarLayer
 pub mod SpelledNumbers
 pub mod Spelled
+pub mod Halting
+pub mod HaltingNumbers
+pub mod HaltingRuns
+pub mod HaltingFronts
+pub mod HaltingContents
+pub mod HaltingLayer
+pub mod HaltsShort
+pub mod Halted
 pub mod BytesOf
 pub mod FaultLaws
 pub mod FaultSums

@@ -8,7 +8,6 @@ use mathlib.Core.List.{List, [], _∷_, _++_}
 use lib.ListN.{length, take, length-append}
 use lib.Seq.{take-at}
 use Rattle.number.specs.BigEndian.{Bytes}
-use Rattle.number.proofs.VarUIntLaws.{form-length, encoded-length}
 use Rattle.format.specs.declared.Form.{Form}
 use Rattle.format.specs.declared.Form.the-variants.{Top}
 use Rattle.format.specs.Parse.{Flaw, long, got}
@@ -22,13 +21,13 @@ use Rattle.format.proofs.Masks.{mask-case, mask-short, bounds-case}
 use Rattle.format.proofs.FlawsMet.{flaws-of-read, sum-where}
 use Rattle.format.proofs.Grammar.{Front}
 use Rattle.format.proofs.GrammarLayer.{read-spells}
-use Rattle.format.proofs.SpelledNumbers.{Any, NoLong, any-clean, no-long-clean, any-number, minimal-number}
+use Rattle.format.proofs.SpelledNumbers.{Any, NoLong, any-clean, no-long-clean, any-number, minimal-number, any-some, minimal-some}
 
 pub read-any : (d : ℕ) (g : Form) → Front Any (read d g) (Spells anyForm d g)
-read-any = read-spells any-clean any-number (λ v u i. rw (i .3, form-length (i .0) v) (omega arith))
+read-any = read-spells any-clean any-number any-some
 
 pub read-minimal : (d : ℕ) (g : Form) → Front NoLong (read d g) (Spells minimalForm d g)
-read-minimal = read-spells no-long-clean minimal-number (λ v u i. rw (i .1) (encoded-length v .0))
+read-minimal = read-spells no-long-clean minimal-number minimal-some
 
 -- the bounds check passes a payload exactly if it is within the length limit and begins with a spelling of a layout, which may have as many levels as the limit says
 pub bounds-exactly-spellings : (s : List ℕ) → Bytes s

@@ -1,5 +1,5 @@
 -- VarUInts in any form, and in the minimal one: read with any flaws, or with no `long`.
-use Prim.Native.Nat.{ℕ}
+use Prim.Native.Nat.{ℕ, _≤_}
 use native.Mathlib.Omega.{arith}
 use mathlib.Core.Path.{_≡_, refl, sym, ap, subst, _∙_}
 use mathlib.Core.Bool.{Bool, true, false, not, _||_}
@@ -11,7 +11,7 @@ use Rattle.number.specs.BigEndian.{Bytes}
 use Rattle.number.specs.VarUInt.{bound, varUInt, form, encoded}
 use Rattle.number.specs.declared.VarUInt.{VarUInt}
 use Rattle.number.specs.declared.VarUInt.the-variants.{Cut, Whole}
-use Rattle.number.proofs.VarUIntLaws.{form-reads, form-length, var-form, var-range, var-local, var-inv}
+use Rattle.number.proofs.VarUIntLaws.{form-reads, form-length, var-form, var-range, var-local, var-inv, encoded-length}
 use Rattle.format.specs.Parse.{Flaw, twin, blank, long, low, wide, notText, notUniform, got, raise, number, readVarUInt}
 use Rattle.format.specs.Mask.{has}
 use Rattle.format.specs.Spells.{anyForm, minimalForm}
@@ -103,3 +103,10 @@ minimal-number = record {
     go : (v : ℕ) (w : List ℕ) (fs : List Flaw) (r : List ℕ) (m : Bool) → Bytes w → varUInt w ≡ Whole v (length w) m → raise (not m) long (got v [] r) ≡ got v fs r → has long fs ≡ false → minimalForm v w
     go v w fs r true y e k c = let i = var-inv w v (length w) y e in (i .0, i .2 ∙ (ap (λ z. encoded v ++ z) (drop-whole w) ∙ append-nil (encoded v)))
     go v w fs r false y e k c = absurd (let z : _≡_ {A = ℕ} 0 1 = cc in omega arith)
+
+-- each has a byte
+pub any-some : (v : ℕ) (u : List ℕ) → anyForm v u → 1 ≤ length u
+any-some v u i = rw (i .3, form-length (i .0) v) (omega arith)
+
+pub minimal-some : (v : ℕ) (u : List ℕ) → minimalForm v u → 1 ≤ length u
+minimal-some v u i = rw (i .1) (encoded-length v .0)

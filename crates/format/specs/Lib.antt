@@ -12,6 +12,7 @@ pub mod Values
 pub mod Show
 pub mod Flawed
 pub mod Spells
+pub mod Halts
 pub mod Stepping
 pub mod WriteList
 pub mod Writer
