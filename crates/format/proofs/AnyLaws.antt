@@ -6,6 +6,7 @@ use mathlib.Core.Bool.{Bool, true, false, _||_, or-true, or-assoc}
 use mathlib.Core.List.{List, [], _∷_, _++_, map}
 use Rattle.format.specs.Kinds.{any}
 use Rattle.format.specs.Flawed.{flatMap}
+use Rattle.format.specs.FlawTable.{In}
 
 or-swap : (a b c : Bool) → (a || (b || c)) ≡ (b || (a || c))
 or-swap true true c = refl
@@ -37,9 +38,6 @@ any-none t h [] = refl
 any-none t h (x ∷ xs) = rw (h x, any-none t h xs)
 
 -- ---- one of them
-
-abbrev pub In : {A : Type 0} → A → List A → Type 0
-In x xs = (a b : List _) × (xs ≡ a ++ (x ∷ b))
 
 pub any-in : {A : Type 0} (t : A → Bool) (xs : List A) → any t xs ≡ true → (x : A) × In x xs × (t x ≡ true)
 any-in t [] h = absurd (let z : _≡_ {A = ℕ} 0 1 = cc in omega arith)

@@ -11,6 +11,7 @@ pub mod Places
 pub mod Values
 pub mod Show
 pub mod Flawed
+pub mod FlawTable
 pub mod Spells
 pub mod Halts
 pub mod Stepping
