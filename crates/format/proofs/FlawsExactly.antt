@@ -185,9 +185,18 @@ flawed-exactly f d x =
     let t : Part → Bool = λ p. flawedPart f (p .0) (p .1) in
     ((λ h. let i = any-in t (parts d x) h in (i .0, i .1, part-exactly f (i .0 .0) (i .0 .1) .0 (i .2))), λ i. in-any t (parts d x) (i .0) (i .1) (part-exactly f (i .0 .0) (i .0 .1) .1 (i .2)))
 
+not-long : (f : Flaw) → (f ≡ long → ⊥) → is f long ≡ false
+not-long twin h = refl
+not-long blank h = refl
+not-long long h = absurd (h refl)
+not-long low h = refl
+not-long wide h = refl
+not-long notText h = refl
+not-long notUniform h = refl
+
 -- a flaw other than `long` was met exactly if some field of the layout has it
-pub met-exactly : (s : List ℕ) (i : ShownPayload s) (f : Flaw) → is f long ≡ false → (has f (i .flaws) ≡ true) ↔ HasFlaw f depthLimit (i .kind, i .layout)
+pub met-exactly : (s : List ℕ) (i : ShownPayload s) (f : Flaw) → (f ≡ long → ⊥) → (has f (i .flaws) ≡ true) ↔ HasFlaw f depthLimit (i .kind, i .layout)
 met-exactly s i f h =
-    let e = met-is-flawed f h depthLimit s _ _ _ (i .was-read) in
+    let e = met-is-flawed f (not-long f h) depthLimit s _ _ _ (i .was-read) in
     let j = flawed-exactly f depthLimit (i .kind, i .layout) in
     ((λ m. j .0 (sym e ∙ m)), λ x. e ∙ j .1 x)

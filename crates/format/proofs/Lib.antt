@@ -30,6 +30,9 @@ pub mod HaltingContents
 pub mod HaltingLayer
 pub mod HaltsShort
 pub mod Halted
+pub mod MaskTold
+pub mod SpelledOut
+pub mod FlawExamples
 pub mod BytesOf
 pub mod FaultLaws
 pub mod FaultSums

@@ -11,11 +11,14 @@ use Rattle.text.specs.Utf8.{isText}
 use Rattle.float.specs.Rule.{holds}
 use Rattle.format.specs.declared.Kind.{Kind}
 use Rattle.format.specs.declared.Kind.the-variants as K
+use Rattle.format.specs.declared.Form.the-variants.{Top}
 use Rattle.format.specs.Parse.{Flaw, twin, blank, long, low, wide, notText, notUniform}
 use Rattle.format.specs.Tree.{Float, Node}
-use Rattle.format.specs.Reader.{Standing, Layout}
+use Rattle.format.specs.Limits.{depthLimit}
+use Rattle.format.specs.Reader.{Standing, Named, Layout}
 use Rattle.format.specs.Values.{whole, real, floatBits}
 use Rattle.format.specs.Flawed.{Part, parts, inside, namesOf, textsOf, numberOf}
+use Rattle.format.specs.Spells.{minimalForm, Spells}
 
 -- one of them; two of them, at two places, equal
 abbrev pub In : {A : Type 0} → A → List A → Type 0
@@ -45,3 +48,13 @@ FlawIn notUniform k n = ((k ≡ K.Object) × (j : Kind) × OneId j (inside n)) �
 -- some field of the layout has it
 abbrev pub HasFlaw : Flaw → (d : ℕ) → Standing (Layout d) → Type 0
 HasFlaw f d x = (p : Part) × In p (parts d x) × FlawIn f (p .0) (p .1)
+
+-- of a payload that begins with w, a spelling of x: the layout has it; and `long`, that w is no spelling of x with minimal VarUInts
+abbrev pub Untidy : Named (Standing (Layout depthLimit)) → List ℕ → Flaw → Type 0
+Untidy x w twin = HasFlaw twin depthLimit (x .1)
+Untidy x w blank = HasFlaw blank depthLimit (x .1)
+Untidy x w long = Spells minimalForm depthLimit Top x w → ⊥
+Untidy x w low = HasFlaw low depthLimit (x .1)
+Untidy x w wide = HasFlaw wide depthLimit (x .1)
+Untidy x w notText = HasFlaw notText depthLimit (x .1)
+Untidy x w notUniform = HasFlaw notUniform depthLimit (x .1)

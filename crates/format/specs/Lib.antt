@@ -11,8 +11,8 @@ pub mod Places
 pub mod Values
 pub mod Show
 pub mod Flawed
-pub mod FlawTable
 pub mod Spells
+pub mod FlawTable
 pub mod Halts
 pub mod Stepping
 pub mod WriteList
