@@ -33,6 +33,7 @@ pub mod Halted
 pub mod MaskTold
 pub mod SpelledOut
 pub mod FlawExamples
+pub mod SpellExamples
 pub mod BytesOf
 pub mod FaultLaws
 pub mod FaultSums
