@@ -5,7 +5,7 @@ use mathlib.Core.Path.{_≡_, refl, sym, ap, subst, _∙_}
 use mathlib.Core.Bool.{Bool, true, false, not, cond}
 use mathlib.Core.List.{List, [], _∷_, _++_, append-assoc}
 use lib.ListN.{length, take, drop, replicate, length-append, length-replicate, take-append-drop}
-use lib.Seq.{take-at}
+use lib.Seq.{take-all}
 use lib.Dec.{ltb, leb}
 use borrow.Author.Tests.{ltb-true}
 use Rattle.number.specs.BigEndian.{All, Bytes}
@@ -28,9 +28,6 @@ padded [] n y = go n
     go (suc n) = (omega arith, go n)
 padded (b ∷ s) n y = (y .0, padded s n (y .1))
 
-take-whole : (w : List ℕ) (n : ℕ) → length w ≡ n → take n w ≡ w
-take-whole w n e = rw append-nil at (take-at w [] n e)
-
 cut-begins : (s : List ℕ) → Bytes s → varUInt s ≡ Cut → NumberCut s
 unfolding varUInt
 cut-begins [] y e = (0, 0 ∷ [], omega arith, (0, omega arith, omega arith, refl))
@@ -42,7 +39,7 @@ cut-begins (b ∷ s) y e = go (ltb (length s) (following b)) refl e
         let m : length (s ++ t) ≡ n = rw (length-append s t, length-replicate {A = ℕ} (n - length s) 0) (omega arith) in
         let w : varUInt (b ∷ (s ++ t)) ≡ Whole (valueOf n b (s ++ t)) (suc n) (leb (bound n) (valueOf n b (s ++ t))) = subst (λ k. answer k b (s ++ t) ≡ Whole (valueOf n b (s ++ t)) (suc n) (leb (bound n) (valueOf n b (s ++ t)))) i (answer-whole n b (s ++ t) (omega arith)) in
         let f = var-form (b ∷ (s ++ t)) (valueOf n b (s ++ t)) (suc n) (leb (bound n) (valueOf n b (s ++ t))) (y .0, padded s (n - length s) (y .1)) w in
-        (valueOf n b (s ++ t), t, rw (length-replicate {A = ℕ} (n - length s) 0) (omega arith), (f .0, f .1, f .2, sym (take-whole (b ∷ (s ++ t)) (suc n) (ap suc m)) ∙ f .3))
+        (valueOf n b (s ++ t), t, rw (length-replicate {A = ℕ} (n - length s) 0) (omega arith), (f .0, f .1, f .2, sym (take-all (suc n) (b ∷ (s ++ t)) (omega arith)) ∙ f .3))
 
     go : (x : Bool) → ltb (length s) (following b) ≡ x → cond x Cut (Whole (valueOf (following b) b s) (suc (following b)) (leb (bound (following b)) (valueOf (following b) b s))) ≡ Cut → NumberCut (b ∷ s)
     go true l h = more (following b) (ltb-true (length s) (following b) l) refl

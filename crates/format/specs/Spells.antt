@@ -8,7 +8,7 @@ use lib.ListN.{length, getD}
 use lib.IntN.{pos, negsuc}
 use Rattle.number.specs.BigEndian.{fromBytes}
 use Rattle.number.specs.Signed.{fromTwos}
-use Rattle.number.specs.VarUInt.{bounds, form, encoded}
+use Rattle.number.specs.VarUInt.{bounds, form}
 use Rattle.format.specs.declared.Kind.{Kind}
 use Rattle.format.specs.declared.Kind.the-variants.{Null, Object, UniformObject, Array, UniformArray, Binary, String, IntegerPositive, IntegerNegative, Float32, Float64, False, True, ObjectAttachment, BinaryAttachment, Hash, Uuid, DateTime, TimeSpan, ObjectId, CustomById, CustomByName}
 use Rattle.format.specs.declared.Mark.the-variants.{OfTop, OfField, OfItem, SharedByFields, SharedByItems}
@@ -19,12 +19,13 @@ use Rattle.format.specs.Tree.{Leaf, null, bool, integer, float, binary, 
 use Rattle.format.specs.Payload.{float32, float64}
 use Rattle.format.specs.Reader.{Standing, Named, Layout}
 
--- the form with some number of bytes behind the first, from 0 to 8, which hold it; the minimal form
+-- a VarUInt of v: n bytes behind the first, n from 0 to 8, which hold it
 abbrev pub anyForm : ℕ → List ℕ → Type 0
 anyForm v u = (n : ℕ) × (n ≤ 8) × (v < getD bounds n (2 ^ 64)) × (u ≡ form n v)
 
+-- "It is minimal if no shorter form holds the value"
 abbrev pub minimalForm : ℕ → List ℕ → Type 0
-minimalForm v u = (v < 2 ^ 64) × (u ≡ encoded v)
+minimalForm v u = anyForm v u × ((t : List ℕ) → anyForm v t → length u ≤ length t)
 
 -- ---- how things are spelled: S a w says that the bytes w spell a
 
@@ -52,6 +53,7 @@ module _ (Num : ℕ → List ℕ → Type 0) where
   abbrev pub Sized : {A : Type 0} → (A → List ℕ → Type 0) → A → List ℕ → Type 0
   Sized S a w = (u b : List ℕ) × (w ≡ u ++ b) × Num (length b) u × S a b
 
+  -- the payload of a leaf, by its kind; of 09 the number is M
   abbrev pub LeafSpells : Kind → Leaf → List ℕ → Type 0
   LeafSpells Null v w = (v ≡ null) × (w ≡ [])
   LeafSpells Object v w = ⊥
@@ -76,7 +78,7 @@ module _ (Num : ℕ → List ℕ → Type 0) where
   LeafSpells CustomById v w = Sized (Behind Num (λ n. Made (customById n) All-of)) v w
   LeafSpells CustomByName v w = Sized (Behind (Sized All-of) (λ n. Made (customByName n) All-of)) v w
 
-  -- type byte and name
+  -- type byte and name, as the place asks
   abbrev pub FrontSpells : Form → List ℕ × Kind → List ℕ → Type 0
   FrontSpells Top x w = (x .0 ≡ []) × (w ≡ typeByte OfTop (x .1) ∷ [])
   FrontSpells Field x w = (t : List ℕ) × (w ≡ typeByte OfField (x .1) ∷ t) × Sized All-of (x .0) t
@@ -85,18 +87,21 @@ module _ (Num : ℕ → List ℕ → Type 0) where
   FrontSpells (SharedItem k) x w = (x ≡ ([], k)) × (w ≡ [])
 
   module _ {A : Type 0} (S : Form → Named (Standing A) → List ℕ → Type 0) where
+    -- fields that fill the part; items, as many as are counted
     abbrev pub FieldsSpell : Form → Node (Standing A) → List ℕ → Type 0
     FieldsSpell g n w = (xs : List (Named (Standing A))) × (n ≡ object xs) × Run (S g) xs w
 
     abbrev pub ItemsSpell : Form → ℕ → Node (Standing A) → List ℕ → Type 0
     ItemsSpell g c n w = (xs : List (Named (Standing A))) × (n ≡ array (map (λ x. x .1) xs)) × (length xs ≡ c) × Run (S g) xs w
 
+    -- 03: the shared byte, and one field or more; 05, behind its count: the shared byte, of no 01, 0C or 0D, and one item or more
     abbrev pub SharedFieldsSpell : Node (Standing A) → List ℕ → Type 0
     SharedFieldsSpell n b = (j : Kind) × (w : List ℕ) × (b ≡ typeByte SharedByFields j ∷ w) × (1 ≤ length w) × FieldsSpell (SharedField j) n w
 
     abbrev pub SharedItemsSpell : ℕ → Node (Standing A) → List ℕ → Type 0
     SharedItemsSpell c n b = (j : Kind) × (w : List ℕ) × (b ≡ typeByte SharedByItems j ∷ w) × (1 ≤ c) × (isBare j ≡ false) × ItemsSpell (SharedItem j) c n w
 
+    -- the payload, by the kind
     abbrev pub NodeSpells : Kind → Node (Standing A) → List ℕ → Type 0
     NodeSpells Object n w = Sized (FieldsSpell Field) n w
     NodeSpells UniformObject n w = Sized SharedFieldsSpell n w
@@ -121,10 +126,11 @@ module _ (Num : ℕ → List ℕ → Type 0) where
     NodeSpells CustomById n w = Made atom (LeafSpells CustomById) n w
     NodeSpells CustomByName n w = Made atom (LeafSpells CustomByName) n w
 
+    -- a field: type byte and name, and the payload
     abbrev pub FieldSpells : Form → Named (Standing (Node (Standing A))) → List ℕ → Type 0
     FieldSpells g x w = (u t : List ℕ) × (w ≡ u ++ t) × FrontSpells g (x .0, x .1 .0) u × NodeSpells (x .1 .0) (x .1 .1) t
 
-  -- d levels
+  -- a field with at most d levels, itself one of them
   abbrev pub Spells : (d : ℕ) → Form → Named (Standing (Layout d)) → List ℕ → Type 0
   Spells zero g x w = ⊥
   Spells (suc d) g x w = FieldSpells (Spells d) g x w
