@@ -1,4 +1,5 @@
--- Layouts beside the sum of the flaws that document 01's table gives them, and the type bytes, computed from definitions that do not know the reader (specs/Flawed.antt, Kinds.antt).
+-- Layouts beside the sum of the flaws that document 01's table gives them, and the type bytes, computed from definitions that do not know the reader
+-- (specs/Flawed.antt, Kinds.antt).
 use Prim.Native.Nat.{ℕ, suc, _+_, _-_, _^_}
 use mathlib.Core.Path.{_≡_, refl}
 use mathlib.Core.Bool.{true, false}

@@ -22,7 +22,8 @@ use Rattle.format.proofs.AnyLaws.{any-map, any-none}
 use Rattle.format.proofs.Tells.{is}
 
 -- one field's tests, by which flaw it is
-pub leaf-none : (f : Flaw) (k : Kind) (v : Leaf) → leafTexts v ≡ [] → isLow (sortOf v) ≡ false → (same k Float64 && isHeld (sortOf v)) ≡ false → flawedPart f k (atom v) ≡ false
+pub leaf-none : (f : Flaw) (k : Kind) (v : Leaf) → leafTexts v ≡ [] → isLow (sortOf v) ≡ false → (same k Float64 && isHeld (sortOf v)) ≡ false
+    → flawedPart f k (atom v) ≡ false
 unfolding isUniform isUniformArray twins
 leaf-none twin k v i j l = refl
 leaf-none blank k v i j l = refl
@@ -85,13 +86,17 @@ abbrev pub nameFlawed : Flaw → List ℕ → Bool
 nameFlawed f n = (is f notText && not (isText n)) || (is f blank && isEmpty n)
 
 pub object-is : (f : Flaw) (k : Kind) (xs : List (Named Kind)) → same k Array ≡ false
-    → flawedPart f k (object xs) ≡ (any (λ x. nameFlawed f (x .0)) xs || (is f notUniform && (same k Object && isUniform (map (λ x. x .1) xs))) || (is f twin && twins (namesIn xs)))
+    → flawedPart f k (object xs) ≡ (any (λ x. nameFlawed f (x .0)) xs || (is f notUniform && (same k Object && isUniform (map (λ x. x .1) xs))) ||
+    (is f twin && twins (namesIn xs)))
 object-is twin k xs h = rw (any-none (λ (x : Named Kind). false) (λ x. refl) xs)
-object-is blank k xs h = rw (or-false (any (λ (x : Named Kind). isEmpty (x .0)) xs), or-false (any (λ (x : Named Kind). isEmpty (x .0)) xs)) (sym (any-map (λ x. isEmpty (x .0)) isEmpty (λ x. x .0) (λ x. refl) xs))
+object-is blank k xs h =
+    rw (or-false (any (λ (x : Named Kind). isEmpty (x .0)) xs), or-false (any (λ (x : Named Kind). isEmpty (x .0)) xs))
+    (sym (any-map (λ x. isEmpty (x .0)) isEmpty (λ x. x .0) (λ x. refl) xs))
 object-is long k xs h = rw (any-none (λ (x : Named Kind). false) (λ x. refl) xs)
 object-is low k xs h = rw (any-none (λ (x : Named Kind). false) (λ x. refl) xs)
 object-is wide k xs h = rw (any-none (λ (x : Named Kind). false) (λ x. refl) xs, and-false (same k Float64))
 object-is notText k xs h =
-    let e : any (λ (x : Named Kind). nameFlawed notText (x .0)) xs ≡ any (λ t. not (isText t)) (namesIn xs) = any-map (λ x. nameFlawed notText (x .0)) (λ t. not (isText t)) (λ x. x .0) (λ x. or-false (not (isText (x .0)))) xs in
+    let e : any (λ (x : Named Kind). nameFlawed notText (x .0)) xs ≡ any (λ t. not (isText t)) (namesIn xs) = any-map (λ x. nameFlawed notText (x .0))
+    (λ t. not (isText t)) (λ x. x .0) (λ x. or-false (not (isText (x .0)))) xs in
     rw (e, or-false (any (λ t. not (isText t)) (namesIn xs)), or-false (any (λ t. not (isText t)) (namesIn xs)))
 object-is notUniform k xs h = rw (any-none (λ (x : Named Kind). false) (λ x. refl) xs, h)

@@ -1,4 +1,5 @@
--- The tests of specs/Flawed.antt come to what document 01's table says (specs/FlawTable.antt), flaw by flaw; and so a flaw is met exactly if some field of the layout has it.
+-- The tests of specs/Flawed.antt come to what document 01's table says (specs/FlawTable.antt), flaw by flaw; and so a flaw is met exactly if some field of
+-- the layout has it.
 use Prim.Native.Nat.{ℕ, _^_, _≤_}
 use native.Mathlib.Omega.{arith}
 use mathlib.Core.Path.{_≡_, refl, sym, ap, subst, _∙_}
@@ -97,7 +98,11 @@ wide-exactly k x = (
 -- ---- texts
 
 text-exactly : (ts : List (List ℕ)) → (any (λ t. not (isText t)) ts ≡ true) ↔ ((t : List ℕ) × In t ts × (isText t ≡ false))
-text-exactly ts = ((λ h. let i = any-in (λ t. not (isText t)) ts h in (i .0, i .1, not-true (isText (i .0)) (i .2))), λ i. in-any (λ t. not (isText t)) ts (i .0) (i .1) (rw (i .2)))
+text-exactly ts = (
+  (λ h. let i = any-in (λ t. not (isText t)) ts h in (i .0, i .1, not-true (isText (i .0)) (i .2))),
+  λ i. in-any (λ t. not (isText t)) ts (i .0) (i .1)
+      (rw (i .2)),
+)
 
 -- ---- IDs
 
@@ -157,14 +162,18 @@ uniform-array-exactly ks = (to ks, λ i. rw (i .2 .1, bare-exactly (i .0) .1 (i 
     to (k ∷ ks) h = let i = and-true (not (isBare k)) (all (same k) ks) h in (k, bare-exactly k .0 (not-true (isBare k) (i .0)), (ks, refl, all-to k ks (i .1)))
 
 not-uniform-exactly : (k : Kind) (ks : List Kind)
-    → (((same k Object && isUniform ks) || (same k Array && isUniformArray ks)) ≡ true) ↔ (((k ≡ Object) × (j : Kind) × OneId j ks) ⊎ ((k ≡ Array) × (j : Kind) × NotBare j × OneId j ks))
+    → (((same k Object && isUniform ks) || (same k Array && isUniformArray ks)) ≡ true) ↔ (((k ≡ Object) × (j : Kind) × OneId j ks)
+    ⊎ ((k ≡ Array) × (j : Kind) × NotBare j × OneId j ks))
 not-uniform-exactly k ks = ((λ h. to (either (same k Object && isUniform ks) (same k Array && isUniformArray ks) h)), from)
   where
-    to : ((same k Object && isUniform ks) ≡ true) ⊎ ((same k Array && isUniformArray ks) ≡ true) → ((k ≡ Object) × (j : Kind) × OneId j ks) ⊎ ((k ≡ Array) × (j : Kind) × NotBare j × OneId j ks)
+    to : ((same k Object && isUniform ks) ≡ true) ⊎ ((same k Array && isUniformArray ks) ≡ true)
+        → ((k ≡ Object) × (j : Kind) × OneId j ks) ⊎ ((k ≡ Array) × (j : Kind) × NotBare j × OneId j ks)
     to (inl h) = let i = and-true (same k Object) (isUniform ks) h in let u = uniform-exactly ks .0 (i .1) in inl (same-eq k Object (i .0), u .0, u .1)
-    to (inr h) = let i = and-true (same k Array) (isUniformArray ks) h in let u = uniform-array-exactly ks .0 (i .1) in inr (same-eq k Array (i .0), u .0, u .1, u .2)
+    to (inr h) =
+        let i = and-true (same k Array) (isUniformArray ks) h in let u = uniform-array-exactly ks .0 (i .1) in inr (same-eq k Array (i .0), u .0, u .1, u .2)
 
-    from : ((k ≡ Object) × (j : Kind) × OneId j ks) ⊎ ((k ≡ Array) × (j : Kind) × NotBare j × OneId j ks) → ((same k Object && isUniform ks) || (same k Array && isUniformArray ks)) ≡ true
+    from : ((k ≡ Object) × (j : Kind) × OneId j ks) ⊎ ((k ≡ Array) × (j : Kind) × NotBare j × OneId j ks)
+        → ((same k Object && isUniform ks) || (same k Array && isUniformArray ks)) ≡ true
     from (inl i) = rw (i .0, uniform-exactly ks .1 (i .1, i .2))
     from (inr i) = rw (i .0, uniform-array-exactly ks .1 (i .1, i .2, i .3))
 
@@ -182,8 +191,11 @@ part-exactly notUniform k n = not-uniform-exactly k (inside n)
 -- the layout's tests
 pub flawed-exactly : (f : Flaw) (d : ℕ) (x : Standing (Layout d)) → (flawed f d x ≡ true) ↔ HasFlaw f d x
 flawed-exactly f d x =
-    let t : Part → Bool = λ p. flawedPart f (p .0) (p .1) in
-    ((λ h. let i = any-in t (parts d x) h in (i .0, i .1, part-exactly f (i .0 .0) (i .0 .1) .0 (i .2))), λ i. in-any t (parts d x) (i .0) (i .1) (part-exactly f (i .0 .0) (i .0 .1) .1 (i .2)))
+    let t : Part → Bool = λ p. flawedPart f (p .0) (p .1) in (
+      (λ h. let i = any-in t (parts d x) h in (i .0, i .1, part-exactly f (i .0 .0) (i .0 .1) .0 (i .2))),
+      λ i. in-any t (parts d x) (i .0) (i .1)
+          (part-exactly f (i .0 .0) (i .0 .1) .1 (i .2)),
+    )
 
 not-long : (f : Flaw) → (f ≡ long → ⊥) → is f long ≡ false
 not-long twin h = refl

@@ -44,11 +44,14 @@ module _ (f : Flaw) (shows : is f long ≡ false) where
           rw (a, m, array-is f k (kindsIn xs) o, t) (or-assoc c _ _ ∙ ap (λ z. c || z) (or-comm (any q (map (λ x. x .1) xs)) _))
 
       fields-flawed : (k : Kind) (g : Form) (c : Bool) (xs : List (Named (Standing X))) → isNamed g ≡ true → isTyped g ≡ same k Object → same k Array ≡ false
-          → (c || any (fieldFlawed g) xs || (is f notUniform && (isTyped g && isUniform (kindsIn xs))) || (is f twin && twins (namesIn xs))) ≡ (c || nodeFlawed k (object xs))
+          → (c || any (fieldFlawed g) xs || (is f notUniform && (isTyped g && isUniform (kindsIn xs))) || (is f twin && twins (namesIn xs))) ≡
+          (c || nodeFlawed k (object xs))
       fields-flawed k g c xs n t o =
           let ys : List (Named Kind) = map (λ (x : Named (Standing X)). (x .0, x .1 .0)) xs in
-          let a : any (fieldFlawed g) xs ≡ (any (λ (x : Named (Standing X)). isNamed g && nameFlawed f (x .0)) xs || any (λ (x : Named (Standing X)). q (x .1)) xs) = any-both (λ (x : Named (Standing X)). isNamed g && nameFlawed f (x .0)) (λ x. q (x .1)) xs in
-          let b : any (λ (x : Named (Standing X)). isNamed g && nameFlawed f (x .0)) xs ≡ any (λ (x : Named Kind). nameFlawed f (x .0)) ys = any-map _ (λ (x : Named Kind). nameFlawed f (x .0)) (λ x. (x .0, x .1 .0)) (λ x. rw n) xs in
+          let a : any (fieldFlawed g) xs ≡ (any (λ (x : Named (Standing X)). isNamed g && nameFlawed f (x .0)) xs || any
+          (λ (x : Named (Standing X)). q (x .1)) xs) = any-both (λ (x : Named (Standing X)). isNamed g && nameFlawed f (x .0)) (λ x. q (x .1)) xs in
+          let b : any (λ (x : Named (Standing X)). isNamed g && nameFlawed f (x .0)) xs ≡ any (λ (x : Named Kind). nameFlawed f (x .0)) ys = any-map _
+          (λ (x : Named Kind). nameFlawed f (x .0)) (λ x. (x .0, x .1 .0)) (λ x. rw n) xs in
           let d : any (λ (x : Named (Standing X)). q (x .1)) xs ≡ any q (map (λ x. x .1) xs) = any-map _ q (λ x. x .1) (λ x. refl) xs in
           let m : map (λ (x : Named Kind). x .1) ys ≡ kindsIn xs = map-map _ _ _ (λ x. refl) xs in
           let l : namesIn ys ≡ namesIn xs = map-map _ _ _ (λ x. refl) xs in
@@ -62,25 +65,36 @@ module _ (f : Flaw) (shows : is f long ≡ false) where
 
       tells-contents : (k : Kind) (c d : Bool) (h : Head) → HeadTells f k c h d → Tells f d (Adds c (nodeFlawed k)) (contents p h)
       tells-contents k c d (value v) i = tells-got f d (Adds c (nodeFlawed k)) (atom v) [] (rw (or-false (flawedPart f k (atom v))) i)
-      tells-contents k c d (itemsIn g n s) i = tells-bind f d (Adds d (any (fieldFlawed g))) _ (many (p g) n s) (asArray g) (tells-many f (fieldFlawed g) (p g) (met g) n d s) λ xs r b e.
-          tells-raise f b _ (isTyped g && isUniformArray (kindsIn xs)) notUniform _ (tells-got f _ (Adds c (nodeFlawed k)) (array (map (λ x. x .1) xs)) r (rw (e, i .0) (items-flawed k g c xs (i .1) (i .2) (i .3))))
-      tells-contents k c d (fieldsIn g s) i = tells-bind f d (Adds d (any (fieldFlawed g))) _ (fill (p g) (length s) s) (asObject g) (tells-fill f (fieldFlawed g) (p g) (met g) (length s) d s) λ xs r b e.
-          tells-raise f b _ (isTyped g && isUniform (kindsIn xs)) notUniform _ (tells-raise f _ _ (twins (namesIn xs)) twin _ (tells-got f _ (Adds c (nodeFlawed k)) (object xs) r (rw (e, i .0) (fields-flawed k g c xs (i .1) (i .2) (i .3)))))
+      tells-contents k c d (itemsIn g n s) i =
+          tells-bind f d (Adds d (any (fieldFlawed g))) _ (many (p g) n s) (asArray g) (tells-many f (fieldFlawed g) (p g) (met g) n d s) λ xs r b e.
+          tells-raise f b _ (isTyped g && isUniformArray (kindsIn xs)) notUniform _
+          (tells-got f _ (Adds c (nodeFlawed k)) (array (map (λ x. x .1) xs)) r (rw (e, i .0) (items-flawed k g c xs (i .1) (i .2) (i .3))))
+      tells-contents k c d (fieldsIn g s) i =
+          tells-bind f d (Adds d (any (fieldFlawed g))) _ (fill (p g) (length s) s) (asObject g)
+          (tells-fill f (fieldFlawed g) (p g) (met g) (length s) d s) λ xs r b e.
+          tells-raise f b _ (isTyped g && isUniform (kindsIn xs)) notUniform _
+          (tells-raise f _ _ (twins (namesIn xs)) twin _
+          (tells-got f _ (Adds c (nodeFlawed k)) (object xs) r (rw (e, i .0) (fields-flawed k g c xs (i .1) (i .2) (i .3)))))
 
       tells-node : (k : Kind) (c : Bool) (s : List ℕ) → Tells f c (Adds c (nodeFlawed k)) (readNode p k s)
-      tells-node k c s = tells-bind f c (HeadTells f k c) _ (head k s) _ (tells-head f shows k c s) λ h r d i. tells-whole f d _ (contents p h) r (tells-contents k c d h i)
+      tells-node k c s =
+          tells-bind f c (HeadTells f k c) _ (head k s) _ (tells-head f shows k c s) λ h r d i. tells-whole f d _ (contents p h) r (tells-contents k c d h i)
 
-      tells-field : (g : Form) (c : Bool) (s : List ℕ) → Tells f c (Adds c (λ x. (isNamed g && nameFlawed f (x .0)) || nodeFlawed (x .1 .0) (x .1 .1))) (readField p g s)
+      tells-field : (g : Form) (c : Bool) (s : List ℕ)
+          → Tells f c (Adds c (λ x. (isNamed g && nameFlawed f (x .0)) || nodeFlawed (x .1 .0) (x .1 .1))) (readField p g s)
       tells-field g c s = tells-bind f c (Adds c (frontFlawed f g)) _ (front g s) _ (tells-front f shows g c s) λ x r b e.
           tells-make f b _ (λ t. (x .0, (x .1, t))) (readNode p (x .1) r)
-          (tells-as f b (Adds b (nodeFlawed (x .1))) _ (readNode p (x .1) r) (λ t d i. i ∙ (ap (λ z. z || nodeFlawed (x .1) t) e ∙ or-assoc c (frontFlawed f g x) (nodeFlawed (x .1) t))) (tells-node (x .1) b r))
+          (tells-as f b (Adds b (nodeFlawed (x .1))) _ (readNode p (x .1) r)
+          (λ t d i. i ∙ (ap (λ z. z || nodeFlawed (x .1) t) e ∙ or-assoc c (frontFlawed f g x) (nodeFlawed (x .1) t))) (tells-node (x .1) b r))
 
   -- ---- every layer
 
   tells-read : (d : ℕ) (g : Form) (c : Bool) (s : List ℕ) → Tells f c (Adds c (fieldFlawed (read d) (flawed f d) g)) (read d g s)
   unfolding read
   tells-read zero g c s = record { says = tt }
-  tells-read (suc d) g c s = tells-as f c _ _ (readField (read d) g s) (λ x b e. rw (any-flat (λ (y : Part). flawedPart f (y .0) (y .1)) (parts d) (inside (x .1 .1))) e) (tells-field (read d) (flawed f d) (tells-read d) g c s)
+  tells-read (suc d) g c s =
+      tells-as f c _ _ (readField (read d) g s) (λ x b e. rw (any-flat (λ (y : Part). flawedPart f (y .0) (y .1)) (parts d) (inside (x .1 .1))) e)
+      (tells-field (read d) (flawed f d) (tells-read d) g c s)
 
   -- of what was read, the flaw was met exactly if the layout has it
   pub met-is-flawed : (d : ℕ) (s : List ℕ) (x : Named (Standing (Layout d))) (fs : List Flaw) (r : List ℕ) → read d Top s ≡ got x fs r → has f fs ≡ flawed f d (x .1)
@@ -93,7 +107,8 @@ pub mask-of-shown : (s : List ℕ) (i : ShownPayload s) (modes : ℕ) → mask m
 mask-of-shown s i modes = mask-case boundsOnly s (bounds-if-tree s _ (i .its-tree)) λ l _. rw (mask-short modes s l, i .was-read)
 
 -- each flaw but `long` was met exactly if the layout has it
-pub flaws-of-read : (d : ℕ) (s : List ℕ) (x : Named (Standing (Layout d))) (fs : List Flaw) (r : List ℕ) → read d Top s ≡ got x fs r → (f : Flaw) → has f fs ≡ shownFlaw d (x .1) (has long fs) f
+pub flaws-of-read : (d : ℕ) (s : List ℕ) (x : Named (Standing (Layout d))) (fs : List Flaw) (r : List ℕ) → read d Top s ≡ got x fs r → (f : Flaw)
+    → has f fs ≡ shownFlaw d (x .1) (has long fs) f
 flaws-of-read d s x fs r e twin = met-is-flawed twin refl d s x fs r e
 flaws-of-read d s x fs r e blank = met-is-flawed blank refl d s x fs r e
 flaws-of-read d s x fs r e long = refl

@@ -67,11 +67,13 @@ module _ (f : Flaw) (shows : is f long ≡ false) where
 
   tells-text : (c : Bool) (s : List ℕ) → Tells f c (Adds c (λ t. is f notText && not (isText t))) (readText s)
   tells-text c s = tells-bind f c (Keeps c) _ (sized rest s) _ (tells-sized c (Keeps c) rest (tells-rest c) s) λ t r b e.
-      tells-raise f b _ (not (isText t)) notText _ (tells-got f _ (Adds c (λ t. is f notText && not (isText t))) t r (ap (λ z. z || (is f notText && not (isText t))) e))
+      tells-raise f b _ (not (isText t)) notText _
+      (tells-got f _ (Adds c (λ t. is f notText && not (isText t))) t r (ap (λ z. z || (is f notText && not (isText t))) e))
 
   tells-name : (c : Bool) (s : List ℕ) → Tells f c (Adds c (nameFlawed f)) (readName s)
   tells-name c s = tells-bind f c (Adds c (λ t. is f notText && not (isText t))) _ (readText s) _ (tells-text c s) λ n r b e.
-      tells-raise f b _ (isEmpty n) blank _ (tells-got f _ (Adds c (nameFlawed f)) n r (ap (λ z. z || (is f blank && isEmpty n)) e ∙ or-assoc c (is f notText && not (isText n)) (is f blank && isEmpty n)))
+      tells-raise f b _ (isEmpty n) blank _ (tells-got f _ (Adds c (nameFlawed f)) n r
+      (ap (λ z. z || (is f blank && isEmpty n)) e ∙ or-assoc c (is f notText && not (isText n)) (is f blank && isEmpty n)))
 
   tells-type : (c : Bool) (m : Mark) (s : List ℕ) → Tells f c (Keeps c) (readType m s)
   tells-type c m [] = record { says = tt }
@@ -86,10 +88,14 @@ module _ (f : Flaw) (shows : is f long ≡ false) where
   tells-front g c s = go g
     where
       typed : (g : Form) (m : Mark) → isNamed g ≡ false → Tells f c (Adds c (frontFlawed f g)) (bind (readType m s) λ k r. got ([], k) [] r)
-      typed g m h = tells-bind f c (Keeps c) _ (readType m s) _ (tells-type c m s) λ k r b e. tells-got f b (Adds c (frontFlawed f g)) ([], k) r (rw h (e ∙ sym (or-false c)))
+      typed g m h =
+          tells-bind f c (Keeps c) _ (readType m s) _ (tells-type c m s) λ k r b e. tells-got f b (Adds c (frontFlawed f g)) ([], k) r (rw h (e ∙ sym (or-false c)))
 
-      name : (g : Form) (c d : Bool) (k : Kind) (r : List ℕ) → d ≡ c → isNamed g ≡ true → Tells f d (Adds c (frontFlawed f g)) (bind (readName r) λ n q. got (n, k) [] q)
-      name g c d k r e h = tells-bind f d (Adds d (nameFlawed f)) _ (readName r) _ (tells-name d r) λ n q b i. tells-got f b (Adds c (frontFlawed f g)) (n, k) q (rw h (i ∙ ap (λ z. z || nameFlawed f n) e))
+      name : (g : Form) (c d : Bool) (k : Kind) (r : List ℕ) → d ≡ c → isNamed g ≡ true
+          → Tells f d (Adds c (frontFlawed f g)) (bind (readName r) λ n q. got (n, k) [] q)
+      name g c d k r e h =
+          tells-bind f d (Adds d (nameFlawed f)) _ (readName r) _ (tells-name d r) λ n q b i. tells-got f b (Adds c (frontFlawed f g)) (n, k) q
+          (rw h (i ∙ ap (λ z. z || nameFlawed f n) e))
 
       go : (g : Form) → Tells f c (Adds c (frontFlawed f g)) (front g s)
       go Top = typed Top OfTop refl
@@ -101,7 +107,8 @@ module _ (f : Flaw) (shows : is f long ≡ false) where
   -- ---- the head
 
   -- a leaf with no flaw of its own
-  quiet : {A : Type 0} (k : Kind) (c : Bool) (g : A → Leaf) (o : Out A) → ((a : A) → leafTexts (g a) ≡ []) → ((a : A) → isLow (sortOf (g a)) ≡ false) → ((a : A) → (same k Float64 && isHeld (sortOf (g a))) ≡ false)
+  quiet : {A : Type 0} (k : Kind) (c : Bool) (g : A → Leaf) (o : Out A) → ((a : A) → leafTexts (g a) ≡ []) → ((a : A) → isLow (sortOf (g a)) ≡ false)
+      → ((a : A) → (same k Float64 && isHeld (sortOf (g a))) ≡ false)
       → Tells f c (Keeps c) o → Tells f c (HeadTells f k c) (make value (make g o))
   quiet k c g o t l w h = tells-make f c (HeadTells f k c) value (make g o) (tells-make f c _ g o
       (tells-as f c (Keeps c) (λ a b. b ≡ (c || flawedPart f k (atom (g a)))) o (λ a b e. rw (leaf-none f k (g a) (t a) (l a) (w a), or-false c) e) h))
@@ -110,28 +117,36 @@ module _ (f : Flaw) (shows : is f long ≡ false) where
       → Tells f c (HeadTells f k c) (make value (got v [] s))
   bare k c v s t l w = tells-make f c (HeadTells f k c) value (got v [] s) (tells-got f c _ v s (rw (leaf-none f k v t l w) (sym (or-false c))))
 
-  bytes : (k : Kind) (c : Bool) (n : ℕ) (g : List ℕ → Leaf) (s : List ℕ) → ((a : List ℕ) → leafTexts (g a) ≡ []) → ((a : List ℕ) → isLow (sortOf (g a)) ≡ false) → ((a : List ℕ) → (same k Float64 && isHeld (sortOf (g a))) ≡ false)
+  bytes : (k : Kind) (c : Bool) (n : ℕ) (g : List ℕ → Leaf) (s : List ℕ) → ((a : List ℕ) → leafTexts (g a) ≡ [])
+      → ((a : List ℕ) → isLow (sortOf (g a)) ≡ false) → ((a : List ℕ) → (same k Float64 && isHeld (sortOf (g a))) ≡ false)
       → Tells f c (HeadTells f k c) (make value (make g (fixed n s)))
   bytes k c n g s t l w = quiet k c g (fixed n s) t l w (tells-fixed f c n s)
 
   negative-tells : (c : Bool) (s : List ℕ) → Tells f c (HeadTells f IntegerNegative c) (make value (readNegative s))
-  negative-tells c s = tells-make f c (HeadTells f IntegerNegative c) value (readNegative s) (tells-bind f c (Keeps c) _ (readVarUInt s) _ (tells-number c s) λ m r b e.
-      tells-raise f b _ (not (ltb m (2 ^ 63))) low _ (tells-got f _ (λ v b. HeadTells f IntegerNegative c (value v) b) (integer (negsuc m)) r (rw (leaf-low f m, e))))
+  negative-tells c s =
+      tells-make f c (HeadTells f IntegerNegative c) value (readNegative s) (tells-bind f c (Keeps c) _ (readVarUInt s) _ (tells-number c s) λ m r b e.
+      tells-raise f b _ (not (ltb m (2 ^ 63))) low _
+      (tells-got f _ (λ v b. HeadTells f IntegerNegative c (value v) b) (integer (negsuc m)) r (rw (leaf-low f m, e))))
 
   float64-tells : (c : Bool) (s : List ℕ) → Tells f c (HeadTells f Float64 c) (make value (readFloat64 s))
   float64-tells c s = tells-make f c (HeadTells f Float64 c) value (readFloat64 s) (tells-bind f c (Keeps c) _ (fixed 8 s) _ (tells-fixed f c 8 s) λ x r b e.
-      tells-raise f b _ (holds (fromBytes x)) wide _ (tells-got f _ (λ v b. HeadTells f Float64 c (value v) b) (float (float64 (fromBytes x))) r (rw (leaf-wide f (fromBytes x), e))))
+      tells-raise f b _ (holds (fromBytes x)) wide _
+      (tells-got f _ (λ v b. HeadTells f Float64 c (value v) b) (float (float64 (fromBytes x))) r (rw (leaf-wide f (fromBytes x), e))))
 
   string-tells : (c : Bool) (s : List ℕ) → Tells f c (HeadTells f String c) (make value (make string (readText s)))
   string-tells c s = tells-make f c (HeadTells f String c) value (make string (readText s)) (tells-make f c _ string (readText s)
       (tells-as f c (Adds c (λ t. is f notText && not (isText t))) _ (readText s) (λ t b e. rw (leaf-text f String (string t) t refl refl refl) e) (tells-text c s)))
 
   by-id-tells : (c : Bool) (s : List ℕ) → Tells f c (HeadTells f CustomById c) (make value (sized readCustomById s))
-  by-id-tells c s = tells-make f c (HeadTells f CustomById c) value (sized readCustomById s) (tells-sized c _ readCustomById (λ b. tells-bind f c (Keeps c) _ (readVarUInt b) _ (tells-number c b) λ n r d e.
+  by-id-tells c s =
+      tells-make f c (HeadTells f CustomById c) value (sized readCustomById s)
+      (tells-sized c _ readCustomById (λ b. tells-bind f c (Keeps c) _ (readVarUInt b) _ (tells-number c b) λ n r d e.
       tells-make f d _ (customById n) (rest r) (tells-got f d _ r [] (rw (leaf-none f CustomById (customById n r) refl refl refl, or-false c) e))) s)
 
   by-name-tells : (c : Bool) (s : List ℕ) → Tells f c (HeadTells f CustomByName c) (make value (sized readCustomByName s))
-  by-name-tells c s = tells-make f c (HeadTells f CustomByName c) value (sized readCustomByName s) (tells-sized c _ readCustomByName (λ b. tells-bind f c (Adds c (λ t. is f notText && not (isText t))) _ (readText b) _ (tells-text c b) λ n r d e.
+  by-name-tells c s =
+      tells-make f c (HeadTells f CustomByName c) value (sized readCustomByName s)
+      (tells-sized c _ readCustomByName (λ b. tells-bind f c (Adds c (λ t. is f notText && not (isText t))) _ (readText b) _ (tells-text c b) λ n r d e.
       tells-make f d _ (customByName n) (rest r) (tells-got f d _ r [] (rw (leaf-text f CustomByName (customByName n r) n refl refl refl) e))) s)
 
   shared-fields-tells : (c : Bool) (b : List ℕ) → Tells f c (HeadTells f UniformObject c) (readSharedFields b)
@@ -150,7 +165,8 @@ module _ (f : Flaw) (shows : is f long ≡ false) where
       go : (n : ℕ) (k : Known) → Tells f d (HeadTells f UniformArray c) (sharedItemsOf n k s)
       go n Unknown = record { says = tt }
       go zero (Is k) = record { says = tt }
-      go (suc n) (Is k) = tells-unless f d _ (isBare k) BadUniform _ (tells-got f d (HeadTells f UniformArray c) (itemsIn (SharedItem k) (suc n) s) [] (e, refl, refl, refl))
+      go (suc n) (Is k) =
+          tells-unless f d _ (isBare k) BadUniform _ (tells-got f d (HeadTells f UniformArray c) (itemsIn (SharedItem k) (suc n) s) [] (e, refl, refl, refl))
 
   pub tells-head : (k : Kind) (c : Bool) (s : List ℕ) → Tells f c (HeadTells f k c) (head k s)
   unfolding head payload
@@ -158,8 +174,11 @@ module _ (f : Flaw) (shows : is f long ≡ false) where
     | Null ↦ λ c s. bare Null c null s refl refl refl
     | Object ↦ λ c s. tells-sized c (HeadTells f Object c) readFields (λ b. tells-got f c (HeadTells f Object c) (fieldsIn Field b) [] (refl, refl, refl, refl)) s
     | UniformObject ↦ λ c s. tells-sized c (HeadTells f UniformObject c) readSharedFields (shared-fields-tells c) s
-    | Array ↦ λ c s. tells-sized c (HeadTells f Array c) readItems (λ b. tells-bind f c (Keeps c) _ (readVarUInt b) _ (tells-number c b) λ n r d e. tells-got f d (HeadTells f Array c) (itemsIn Item n r) [] (e, refl, refl, refl)) s
-    | UniformArray ↦ λ c s. tells-sized c (HeadTells f UniformArray c) (λ b. bind (readVarUInt b) readSharedItems) (λ b. tells-bind f c (Keeps c) _ (readVarUInt b) _ (tells-number c b) λ n r d e. shared-items-tells c d e n r) s
+    | Array ↦ λ c s. tells-sized c (HeadTells f Array c) readItems
+        (λ b. tells-bind f c (Keeps c) _ (readVarUInt b) _ (tells-number c b) λ n r d e. tells-got f d (HeadTells f Array c) (itemsIn Item n r) []
+        (e, refl, refl, refl)) s
+    | UniformArray ↦ λ c s. tells-sized c (HeadTells f UniformArray c) (λ b. bind (readVarUInt b) readSharedItems)
+        (λ b. tells-bind f c (Keeps c) _ (readVarUInt b) _ (tells-number c b) λ n r d e. shared-items-tells c d e n r) s
     | Binary ↦ λ c s. quiet Binary c binary (sized rest s) (λ a. refl) (λ a. refl) (λ a. refl) (tells-sized c (Keeps c) rest (tells-rest c) s)
     | String ↦ string-tells
     | IntegerPositive ↦ λ c s. quiet IntegerPositive c (λ m. integer (pos m)) (readVarUInt s) (λ a. refl) (λ a. refl) (λ a. refl) (tells-number c s)

@@ -1,5 +1,5 @@
--- A reader reads just what a grammar spells (specs/Spells.antt): both directions, kept by the ways of putting readers together. Which flaws are asked for is open: once it is
--- any, once none that is `long`.
+-- A reader reads just what a grammar spells (specs/Spells.antt): both directions, kept by the ways of putting readers together. Which flaws are asked for is
+-- open: once it is any, once none that is `long`.
 use Prim.Native.Nat.{ℕ}
 use native.Mathlib.Omega.{arith}
 use mathlib.Core.Path.{_≡_, refl, sym, ap, subst, _∙_}
@@ -43,7 +43,8 @@ module _ {C : List Flaw → Type 0} (clean : Clean C) where
     from = λ a b i. let j = h .from a b i [] in (j .0, j .1, subst (λ x. p x ≡ got a (j .0) []) (append-nil b) (j .2));
   }
 
-  pub front-as : {A : Type 0} (p : List ℕ → Out A) (S T : A → List ℕ → Type 0) → ((a : A) (w : List ℕ) → Bytes w → S a w → T a w) → ((a : A) (w : List ℕ) → T a w → S a w) → Front C p S → Front C p T
+  pub front-as : {A : Type 0} (p : List ℕ → Out A) (S T : A → List ℕ → Type 0) → ((a : A) (w : List ℕ) → Bytes w → S a w → T a w)
+      → ((a : A) (w : List ℕ) → T a w → S a w) → Front C p S → Front C p T
   front-as p S T f g h = record {
     to = λ s a fs r y e c. let i = h .to s a fs r y e c in (i .0, i .1, f a (i .0) (bytes-left _ (i .0) r y (i .1)) (i .2));
     from = λ a w t. h .from a w (g a w t);
@@ -91,7 +92,8 @@ module _ {C : List Flaw → Type 0} (clean : Clean C) where
 
   pub part-make : {A B : Type 0} (g : A → B) (p : List ℕ → Out A) (S : A → List ℕ → Type 0) → Part C p S → Part C (λ s. make g (p s)) (Made g S)
   part-make g p S h = record {
-    to = λ s b fs y e c. bind-got (p s) _ e λ a es q gs i j ef. (a, cc, h .to s a es y (let z : q ≡ [] = cc in subst (λ q. p s ≡ got a es q) z i) (clean .left es gs (subst C ef c)));
+    to = λ s b fs y e c. bind-got (p s) _ e λ a es q gs i j ef.
+        (a, cc, h .to s a es y (let z : q ≡ [] = cc in subst (λ q. p s ≡ got a es q) z i) (clean .left es gs (subst C ef c)));
     from = λ b w x. let i = h .from (x .0) w (x .2) in (i .0 ++ [], clean .both (i .0) [] (i .1) (clean .none), rw (i .2, x .1) (with-put (i .0) [] (g (x .0)) []));
   }
 
@@ -112,9 +114,15 @@ module _ {C : List Flaw → Type 0} (clean : Clean C) where
 
   pub front-fixed : (n : ℕ) → Front C (fixed n) (Exactly n)
   unfolding fixed
-  front-fixed n = record { to = λ s a fs r y h c. go s a fs r (ltb (length s) n) refl h; from = λ a w x r. ([], clean .none, rw (x .0, le-ltb (length (w ++ r)) n (rw (length-append w r) (omega (arith, x .1))), take-at w r n (x .1), drop-at w r n (x .1))) }
+  front-fixed n =
+      record {
+        to = λ s a fs r y h c. go s a fs r (ltb (length s) n) refl h;
+        from = λ a w x r.
+            ([], clean .none, rw (x .0, le-ltb (length (w ++ r)) n (rw (length-append w r) (omega (arith, x .1))), take-at w r n (x .1), drop-at w r n (x .1)));
+      }
     where
-      go : (s a : List ℕ) (fs : List Flaw) (r : List ℕ) (x : Bool) → ltb (length s) n ≡ x → cond x (fault Early) (got (take n s) [] (drop n s)) ≡ got a fs r → (w : List ℕ) × (s ≡ w ++ r) × Exactly n a w
+      go : (s a : List ℕ) (fs : List Flaw) (r : List ℕ) (x : Bool) → ltb (length s) n ≡ x → cond x (fault Early) (got (take n s) [] (drop n s)) ≡ got a fs r
+          → (w : List ℕ) × (s ≡ w ++ r) × Exactly n a w
       go s a fs r true e h = never h
       go s a fs r false e h = (take n s, cc (take-append-drop n s), (cc, length-take-le n s (ltb-false (length s) n e)))
 
@@ -129,11 +137,21 @@ module _ {C : List Flaw → Type 0} (clean : Clean C) where
           let j = h .from a (x .1) (x .4) in (
             i .0 ++ j .0,
             clean .both (i .0) (j .0) (i .1) (j .1),
-            rw (x .2, append-assoc (x .0) (x .1) r, i .2, le-ltb (length (x .1 ++ r)) (length (x .1)) (rw (length-append (x .1) r) (omega arith)), take-at (x .1) r (length (x .1)) refl, drop-at (x .1) r (length (x .1)) refl, j .2) (with-put (i .0) (j .0) a r),
+            rw (
+              x .2,
+              append-assoc (x .0) (x .1) r,
+              i .2,
+              le-ltb (length (x .1 ++ r)) (length (x .1)) (rw (length-append (x .1) r) (omega arith)),
+              take-at
+                  (x .1) r (length (x .1)) refl,
+              drop-at (x .1) r (length (x .1)) refl,
+              j .2,
+            ) (with-put (i .0) (j .0) a r),
           );
     }
       where
-        go : (s : List ℕ) (a : A) (r : List ℕ) (n : ℕ) (q : List ℕ) (gs : List Flaw) (u : List ℕ) → s ≡ u ++ q → Bytes q → Num n u → C gs → (b : Bool) → ltb (length q) n ≡ b
+        go : (s : List ℕ) (a : A) (r : List ℕ) (n : ℕ) (q : List ℕ) (gs : List Flaw) (u : List ℕ) → s ≡ u ++ q → Bytes q → Num n u → C gs → (b : Bool)
+            → ltb (length q) n ≡ b
             → cond b (fault Early) (whole (p (take n q)) (drop n q)) ≡ got a gs r → (w : List ℕ) × (s ≡ w ++ r) × Sized Num S a w
         go s a r n q gs u e y v c true l k = never k
         go s a r n q gs u e y v c false l k = whole-got (p (take n q)) (drop n q) k λ i j. (
@@ -142,11 +160,13 @@ module _ {C : List Flaw → Type 0} (clean : Clean C) where
           (u, take n q, refl, subst (λ z. Num z u) (sym (length-take-le n q (ltb-false (length q) n l))) v, h .to (take n q) a gs (bytes-take n q y) i c),
         )
 
-  pub raise-from : {A : Type 0} (x : Bool) (f : Flaw) → is f long ≡ false → (o : Out A) (a : A) (r : List ℕ) → (gs : List Flaw) × C gs × (o ≡ got a gs r) → (fs : List Flaw) × C fs × (raise x f o ≡ got a fs r)
+  pub raise-from : {A : Type 0} (x : Bool) (f : Flaw) → is f long ≡ false → (o : Out A) (a : A) (r : List ℕ) → (gs : List Flaw) × C gs × (o ≡ got a gs r)
+      → (fs : List Flaw) × C fs × (raise x f o ≡ got a fs r)
   raise-from false f n o a r i = i
   raise-from true f n o a r i = (f ∷ i .0, clean .both (f ∷ []) (i .0) (clean .other f n) (i .1), rw (i .2))
 
-  pub put : {A B : Type 0} (o : Out A) (k : A → List ℕ → Out B) (a : A) (b t : B) (fs : List Flaw) → C fs → (gs : List Flaw) → C gs → o ≡ got a fs [] → k a [] ≡ got b gs [] → t ≡ b
+  pub put : {A B : Type 0} (o : Out A) (k : A → List ℕ → Out B) (a : A) (b t : B) (fs : List Flaw) → C fs → (gs : List Flaw) → C gs → o ≡ got a fs []
+      → k a [] ≡ got b gs [] → t ≡ b
       → (hs : List Flaw) × C hs × (bind o k ≡ got t hs [])
   put o k a b t fs c gs d e i j = (fs ++ gs, clean .both fs gs c d, rw (e, i, j) (with-put fs gs b []))
 

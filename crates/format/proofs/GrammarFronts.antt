@@ -35,11 +35,15 @@ module _ {C : List Flaw → Type 0} (clean : Clean C) where
 
   module _ {Num : ℕ → List ℕ → Type 0} (num : Front C readVarUInt Num) where
     pub front-text : Front C readText (Sized Num All-of)
-    front-text = front-as clean readText (Made (λ t. t) (Sized Num All-of)) (Sized Num All-of) (λ a w y x. subst (λ a. Sized Num All-of a w) (sym (x .1)) (x .2)) (λ a w x. (a, refl, x))
+    front-text =
+        front-as clean readText (Made (λ t. t) (Sized Num All-of)) (Sized Num All-of) (λ a w y x. subst (λ a. Sized Num All-of a w) (sym (x .1)) (x .2))
+        (λ a w x. (a, refl, x))
         (front-flag clean (λ t. t) (λ t. not (isText t)) notText refl (sized rest) (Sized Num All-of) (front-sized clean num rest All-of (part-rest clean)))
 
     pub front-name : Front C readName (Sized Num All-of)
-    front-name = front-as clean readName (Made (λ t. t) (Sized Num All-of)) (Sized Num All-of) (λ a w y x. subst (λ a. Sized Num All-of a w) (sym (x .1)) (x .2)) (λ a w x. (a, refl, x))
+    front-name =
+        front-as clean readName (Made (λ t. t) (Sized Num All-of)) (Sized Num All-of) (λ a w y x. subst (λ a. Sized Num All-of a w) (sym (x .1)) (x .2))
+        (λ a w x. (a, refl, x))
         (front-flag clean (λ t. t) isEmpty blank refl readText (Sized Num All-of) front-text)
 
     pub front-front : (g : Form) → Front C (front g) (FrontSpells Num g)
@@ -50,7 +54,8 @@ module _ {C : List Flaw → Type 0} (clean : Clean C) where
     front-front Field = front-as clean (front Field) (Behind (λ k w. w ≡ typeByte OfField k ∷ []) (λ k. Made (λ n. (n, k)) (Sized Num All-of))) _
         (λ x w y i. subst (λ x. FrontSpells Num Field x w) (sym (i .5 .1)) (i .2, i .3 ∙ ap (λ u. u ++ i .2) (i .4), i .5 .2))
         (λ x w i. (x .1, typeByte OfField (x .1) ∷ [], i .0, i .1, refl, (x .0, refl, i .2)))
-        (front-bind clean (readType OfField) (λ k r. make (λ n. (n, k)) (readName r)) _ _ (front-type OfField) (λ k. front-make clean (λ n. (n, k)) readName _ front-name))
+        (front-bind clean (readType OfField) (λ k r. make (λ n. (n, k)) (readName r)) _ _ (front-type OfField)
+        (λ k. front-make clean (λ n. (n, k)) readName _ front-name))
     front-front Item = front-as clean (front Item) (Made (λ k. ([], k)) (λ k w. w ≡ typeByte OfItem k ∷ [])) _
         (λ x w y i. subst (λ x. FrontSpells Num Item x w) (sym (i .1)) (refl, i .2)) (λ x w i. (x .1, ap (λ n. (n, x .1)) (i .0), i .1))
         (front-make clean (λ k. ([], k)) (readType OfItem) _ (front-type OfItem))

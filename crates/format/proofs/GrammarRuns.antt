@@ -56,7 +56,8 @@ module _ {C : List Flaw → Type 0} (clean : Clean C) {A : Type 0} (p : List ℕ
   fill-none zero = refl
   fill-none (suc n) = refl
 
-  pub fill-from : ((x : A) (w : List ℕ) → S x w → 1 ≤ length w) → (n : ℕ) (xs : List A) (s : List ℕ) → Run S xs s → length s ≤ n → (fs : List Flaw) × C fs × (fill p n s ≡ got xs fs [])
+  pub fill-from : ((x : A) (w : List ℕ) → S x w → 1 ≤ length w) → (n : ℕ) (xs : List A) (s : List ℕ) → Run S xs s → length s ≤ n
+      → (fs : List Flaw) × C fs × (fill p n s ≡ got xs fs [])
   fill-from m n [] s e l = ([], clean .none, rw (e, fill-none n))
   fill-from m zero (x ∷ xs) s e l = absurd (omega (arith, m x (e .0) (e .3), simp length-append at (ap length (e .2))))
   fill-from m (suc n) (x ∷ xs) s e l =

@@ -65,8 +65,12 @@ sum-is modes met =
     let d = once (counts modes met low) 128 in
     let e = once (counts modes met wide) 256 in
     let f = once (counts modes met notText) 512 in
-    let g = once (counts modes met notUniform) 1024 in
-    (a .0 + 2 * b .0 + 4 * c .0 + 8 * d .0 + 16 * e .0 + 32 * f .0 + 64 * g .0, omega (arith, a .2, b .2, c .2, d .2, e .2, f .2, g .2), omega (arith, a .1, b .1, c .1, d .1, e .1, f .1, g .1))
+    let g = once (counts modes met notUniform) 1024 in (
+      a .0 + 2 * b .0 + 4 * c .0 + 8 * d .0 + 16 * e .0 + 32 * f .0 + 64 * g .0,
+      omega (arith, a .2, b .2, c .2, d .2, e .2, f .2, g .2),
+      omega
+          (arith, a .1, b .1, c .1, d .1, e .1, f .1, g .1),
+    )
 
 padding-is : (modes : ℕ) (left : List ℕ) → (n : ℕ) × (paddingOf modes left ≡ 4096 * n) × (n ≤ 1)
 padding-is modes [] = (0, omega arith, omega arith)
@@ -77,7 +81,9 @@ between n zero l e = omega arith
 between n (suc m) l e = omega arith
 
 pub sum-no-stop : (modes : ℕ) (met : List Flaw) (left : List ℕ) (k : Stop) → sumOf modes met flaws + paddingOf modes left ≡ stopValue k → ⊥
-sum-no-stop modes met left k h = go (sum-is modes met .0) (padding-is modes left .0) (sum-is modes met .2) k (sym (ap (λ n. n + paddingOf modes left) (sum-is modes met .1)) ∙ h) (padding-is modes left .1)
+sum-no-stop modes met left k h =
+    go (sum-is modes met .0) (padding-is modes left .0) (sum-is modes met .2) k (sym (ap (λ n. n + paddingOf modes left) (sum-is modes met .1)) ∙ h)
+    (padding-is modes left .1)
   where
     go : (n m : ℕ) → n < 128 → (k : Stop) → 16 * n + paddingOf modes left ≡ stopValue k → paddingOf modes left ≡ 4096 * m → ⊥
     go n m l Early e i = omega (arith, e, i)
@@ -127,16 +133,20 @@ one-stop s k l i j = stop-one k l (sym (halts-mask k s boundsOnly i) ∙ halts-m
 
 -- it halts, or it is a spelling of a layout, and something after it; and not both
 pub halts-or-spells : (s : List ℕ) → Bytes s
-    → ((k : Stop) × Halts k s) ⊎ ((length s ≤ lengthLimit) × (x : Named (Standing (Layout depthLimit))) × (w left : List ℕ) × (s ≡ w ++ left) × Spells anyForm depthLimit Top x w)
+    → ((k : Stop) × Halts k s)
+    ⊎ ((length s ≤ lengthLimit) × (x : Named (Standing (Layout depthLimit))) × (w left : List ℕ) × (s ≡ w ++ left) × Spells anyForm depthLimit Top x w)
 halts-or-spells s y = long-case s (λ l. inl (TooLong, inl (refl, l))) (λ l. go l (read depthLimit Top s) refl)
   where
     go : length s ≤ lengthLimit → (o : Out (Named (Standing (Layout depthLimit)))) → read depthLimit Top s ≡ o
-        → ((k : Stop) × Halts k s) ⊎ ((length s ≤ lengthLimit) × (x : Named (Standing (Layout depthLimit))) × (w left : List ℕ) × (s ≡ w ++ left) × Spells anyForm depthLimit Top x w)
+        → ((k : Stop) × Halts k s)
+        ⊎ ((length s ≤ lengthLimit) × (x : Named (Standing (Layout depthLimit))) × (w left : List ℕ) × (s ≡ w ++ left) × Spells anyForm depthLimit Top x w)
     go l (fault k) e = inl (k, inr (l, read-halts depthLimit Top .to s k y e))
     go l (got x fs r) e = let i = read-any depthLimit Top .to s x fs r y e tt in inr (l, x, i .0, r, i .1, i .2)
 
-pub halts-not-spells : (s : List ℕ) (k : Stop) (x : Named (Standing (Layout depthLimit))) (w left : List ℕ) → Halts k s → length s ≤ lengthLimit → s ≡ w ++ left → Spells anyForm depthLimit Top x w → ⊥
+pub halts-not-spells : (s : List ℕ) (k : Stop) (x : Named (Standing (Layout depthLimit))) (w left : List ℕ) → Halts k s → length s ≤ lengthLimit
+    → s ≡ w ++ left → Spells anyForm depthLimit Top x w → ⊥
 halts-not-spells s k x w left i l e j =
     let a = read-any depthLimit Top .from x w j left in
-    let m : mask boundsOnly s ≡ sumOf boundsOnly (a .0) flaws + paddingOf boundsOnly left = mask-short boundsOnly s l ∙ (ap (λ s. maskOf boundsOnly (read depthLimit Top s)) e ∙ ap (maskOf boundsOnly) (a .2)) in
+    let m : mask boundsOnly s ≡ sumOf boundsOnly (a .0) flaws + paddingOf boundsOnly left =
+    mask-short boundsOnly s l ∙ (ap (λ s. maskOf boundsOnly (read depthLimit Top s)) e ∙ ap (maskOf boundsOnly) (a .2)) in
     sum-no-stop boundsOnly (a .0) left k (sym m ∙ halts-mask k s boundsOnly i)

@@ -57,7 +57,9 @@ halt-type m = record { to = to; from = from }
     from k s (inr i) = rw (i .0, i .3, unknown-at m (i .1) (i .4))
 
 pub halt-bytes : Halt (sized rest) TextHalts
-halt-bytes = halt-as (sized rest) (SizedHalts (λ k b. ⊥)) TextHalts out (λ k s i. inl i) (halt-sized halt-number rest (λ k b. ⊥) (λ b a fs r e. cc) (halt-none rest (λ s k e. never (sym e))))
+halt-bytes =
+    halt-as (sized rest) (SizedHalts (λ k b. ⊥)) TextHalts out (λ k s i. inl i)
+    (halt-sized halt-number rest (λ k b. ⊥) (λ b a fs r e. cc) (halt-none rest (λ s k e. never (sym e))))
   where
     out : (k : Stop) (s : List ℕ) → Bytes s → SizedHalts (λ k b. ⊥) k s → TextHalts k s
     out k s y (inl i) = i
@@ -73,7 +75,8 @@ pub halt-front : (g : Form) → Halt (front g) (FrontHalts g)
 unfolding front
 halt-front Top = halt-make (λ k. ([], k)) (readType OfTop) (TypeHalts OfTop) (halt-type OfTop)
 halt-front Field = halt-as (front Field) (OrBehind (TypeHalts OfField) (λ k w. w ≡ typeByte OfField k ∷ []) (λ k. TextHalts)) (FrontHalts Field) out back
-    (halt-bind (readType OfField) (λ k r. make (λ n. (n, k)) (readName r)) _ _ (λ k. TextHalts) (front-type any-clean OfField) (halt-type OfField) (λ k. halt-make (λ n. (n, k)) readName TextHalts halt-name))
+    (halt-bind (readType OfField) (λ k r. make (λ n. (n, k)) (readName r)) _ _ (λ k. TextHalts) (front-type any-clean OfField) (halt-type OfField)
+    (λ k. halt-make (λ n. (n, k)) readName TextHalts halt-name))
   where
     out : (k : Stop) (s : List ℕ) → Bytes s → OrBehind (TypeHalts OfField) (λ k w. w ≡ typeByte OfField k ∷ []) (λ k. TextHalts) k s → FrontHalts Field k s
     out k s y (inl i) = inl i
@@ -87,10 +90,12 @@ halt-front (SharedField k) = halt-make (λ n. (n, k)) readName TextHalts halt-na
 halt-front (SharedItem k) = halt-none (front (SharedItem k)) (λ s n e. never (sym e))
 
 -- a leaf has no contents in which it could stop
-pub halt-leaf : {X : Type 0} (p : Reader X) (q : List ℕ → Out Leaf) (H : Stop → List ℕ → Type 0) → Halt q H → Halt (λ s. bind (make value (q s)) λ h r. whole (contents p h) r) H
+pub halt-leaf : {X : Type 0} (p : Reader X) (q : List ℕ → Out Leaf) (H : Stop → List ℕ → Type 0) → Halt q H
+    → Halt (λ s. bind (make value (q s)) λ h r. whole (contents p h) r) H
 halt-leaf p q H h = record {
   to = λ s k y e. bind-fault (make value (q s)) (λ h r. whole (contents p h) r) e
       (λ i. bind-fault (q s) (λ v r. got (value v) [] r) i (h .to s k y) (λ v fs r _ j. never (sym j)))
-      (λ d fs r i j. bind-got (q s) (λ v r. got (value v) [] r) i λ v es t gs _ j′ _. let z : d ≡ value v = cc in never (sym (subst (λ d. whole (contents p d) r ≡ fault k) z j)));
+      (λ d fs r i j. bind-got (q s) (λ v r. got (value v) [] r) i λ v es t gs _ j′ _. let z : d ≡ value v = cc in never
+      (sym (subst (λ d. whole (contents p d) r ≡ fault k) z j)));
   from = λ k s i. rw (h .from k s i);
 }

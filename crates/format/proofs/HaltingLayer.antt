@@ -83,10 +83,16 @@ module _ {X : Type 0} (p : Reader X) where
       → Halt (λ b. bind (bind (readVarUInt b) K) λ h r. whole (contents p h) r) (CountedHalts I)
   halt-counted K I i =
       let h = halt-bind readVarUInt (λ n r. bind (K n r) λ h r. whole (contents p h) r) anyForm NumberHalts I any-number halt-number i in
-      record { to = λ s k y e. h .to s k y (sym (bind-bind (readVarUInt s) K (λ h r. whole (contents p h) r)) ∙ e); from = λ k s j. bind-bind (readVarUInt s) K (λ h r. whole (contents p h) r) ∙ h .from k s j }
+      record {
+        to = λ s k y e. h .to s k y (sym (bind-bind (readVarUInt s) K (λ h r. whole (contents p h) r)) ∙ e);
+        from = λ k s j. bind-bind
+            (readVarUInt s) K (λ h r. whole (contents p h) r) ∙ h .from k s j;
+      }
 
-  module _ (S : Form → Named (Standing X) → List ℕ → Type 0) (H : Form → Stop → List ℕ → Type 0) (good : (g : Form) → Front Any (p g) (S g)) (halts : (g : Form) → Halt (p g) (H g))
-      (some-field : (x : Named (Standing X)) (w : List ℕ) → S Field x w → 1 ≤ length w) (some-shared : (k : Kind) (x : Named (Standing X)) (w : List ℕ) → S (SharedField k) x w → 1 ≤ length w) where
+  module _ (S : Form → Named (Standing X) → List ℕ → Type 0) (H : Form → Stop → List ℕ → Type 0) (good : (g : Form) → Front Any (p g) (S g))
+      (halts : (g : Form) → Halt (p g) (H g))
+      (some-field : (x : Named (Standing X)) (w : List ℕ) → S Field x w → 1 ≤ length w)
+      (some-shared : (k : Kind) (x : Named (Standing X)) (w : List ℕ) → S (SharedField k) x w → 1 ≤ length w) where
     shared-fields-halt : Halt (λ b. bind (readSharedFields b) λ h r. whole (contents p h) r) (SharedFieldsHalt H S)
     shared-fields-halt = record { to = to; from = from }
       where
@@ -94,12 +100,21 @@ module _ {X : Type 0} (p : Reader X) where
         to [] k y e = inl (inl (cc, refl))
         to (b ∷ s) k y e = go (kindAt SharedByFields b) refl s (y .1) e
           where
-            go : (o : Known) → kindAt SharedByFields b ≡ o → (s : List ℕ) → Bytes s → bind (sharedFieldsOf o s) (λ h r. whole (contents p h) r) ≡ fault k → SharedFieldsHalt H S k (b ∷ s)
+            go : (o : Known) → kindAt SharedByFields b ≡ o → (s : List ℕ) → Bytes s → bind (sharedFieldsOf o s) (λ h r. whole (contents p h) r) ≡ fault k
+                → SharedFieldsHalt H S k (b ∷ s)
             go Unknown i s y e = inl (inr (cc, b, s, refl, at-unknown SharedByFields b i))
             go (Is j) i [] y e = inr (j, [], ap (λ b. b ∷ []) (kind-inv SharedByFields b j i), inl (cc, refl))
-            go (Is j) i (a ∷ s) y e = inr (j, a ∷ s, ap (λ b. b ∷ a ∷ s) (kind-inv SharedByFields b j i), inr (fields-halt p S H good halts (SharedField j) (some-shared j) .to (a ∷ s) k y e))
+            go (Is j) i (a ∷ s) y e =
+                inr (
+                  j,
+                  a ∷ s,
+                  ap (λ b. b ∷ a ∷ s) (kind-inv SharedByFields b j i),
+                  inr
+                      (fields-halt p S H good halts (SharedField j) (some-shared j) .to (a ∷ s) k y e),
+                )
 
-        some : (j : Kind) (t : List ℕ) (k : Stop) → ((k ≡ T.BadUniform) × (t ≡ [])) ⊎ FieldsHalt H S (SharedField j) k t → bind (sharedFieldsOf (Is j) t) (λ h r. whole (contents p h) r) ≡ fault k
+        some : (j : Kind) (t : List ℕ) (k : Stop) → ((k ≡ T.BadUniform) × (t ≡ [])) ⊎ FieldsHalt H S (SharedField j) k t
+            → bind (sharedFieldsOf (Is j) t) (λ h r. whole (contents p h) r) ≡ fault k
         some j t k (inl i) = rw (i .0, i .1)
         some j [] k (inr i) = absurd (omega (arith, i .5, simp length-append at (ap length (i .3))))
         some j (a ∷ t) k (inr i) = fields-halt p S H good halts (SharedField j) (some-shared j) .from k (a ∷ t) i
@@ -116,17 +131,20 @@ module _ {X : Type 0} (p : Reader X) where
         to [] k y e = inl (inl (cc, refl))
         to (b ∷ s) k y e = go n (kindAt SharedByItems b) refl e
           where
-            bare : (n : ℕ) (j : Kind) → b ≡ typeByte SharedByItems j → (x : Bool) → isBare j ≡ x → bind (cond x (fault T.BadUniform) (got (itemsIn (SharedItem j) (suc n) s) [] [])) (λ h r. whole (contents p h) r) ≡ fault k
+            bare : (n : ℕ) (j : Kind) → b ≡ typeByte SharedByItems j → (x : Bool) → isBare j ≡ x
+                → bind (cond x (fault T.BadUniform) (got (itemsIn (SharedItem j) (suc n) s) [] [])) (λ h r. whole (contents p h) r) ≡ fault k
                 → SharedItemsHalt H S (suc n) k (b ∷ s)
             bare n j i true m e = inr (j, s, ap (λ b. b ∷ s) i, inl (cc, inr m))
             bare n j i false m e = inr (j, s, ap (λ b. b ∷ s) i, inr (omega arith, m, items-halt p S H good halts (SharedItem j) (suc n) .to s k (y .1) e))
 
-            go : (n : ℕ) (o : Known) → kindAt SharedByItems b ≡ o → bind (sharedItemsOf n o s) (λ h r. whole (contents p h) r) ≡ fault k → SharedItemsHalt H S n k (b ∷ s)
+            go : (n : ℕ) (o : Known) → kindAt SharedByItems b ≡ o → bind (sharedItemsOf n o s) (λ h r. whole (contents p h) r) ≡ fault k
+                → SharedItemsHalt H S n k (b ∷ s)
             go n Unknown i e = inl (inr (cc, b, s, refl, at-unknown SharedByItems b i))
             go zero (Is j) i e = inr (j, s, ap (λ b. b ∷ s) (kind-inv SharedByItems b j i), inl (cc, inl refl))
             go (suc n) (Is j) i e = bare n j (kind-inv SharedByItems b j i) (isBare j) refl e
 
-        some : (n : ℕ) (j : Kind) (t : List ℕ) (k : Stop) → ((k ≡ T.BadUniform) × ((n ≡ 0) ⊎ (isBare j ≡ true))) ⊎ ((1 ≤ n) × (isBare j ≡ false) × ItemsHalt H S (SharedItem j) n k t)
+        some : (n : ℕ) (j : Kind) (t : List ℕ) (k : Stop)
+            → ((k ≡ T.BadUniform) × ((n ≡ 0) ⊎ (isBare j ≡ true))) ⊎ ((1 ≤ n) × (isBare j ≡ false) × ItemsHalt H S (SharedItem j) n k t)
             → bind (sharedItemsOf n (Is j) t) (λ h r. whole (contents p h) r) ≡ fault k
         some zero j t k (inl i) = rw (i .0)
         some zero j t k (inr i) = absurd (omega (arith, i .0))
@@ -148,14 +166,19 @@ module _ {X : Type 0} (p : Reader X) where
       | Null ↦ halt-leaf p (λ s. got null [] s) (λ k s. ⊥) (halt-none (λ s. got null [] s) (λ s k e. never (sym e)))
       | Object ↦ halt-part p readFields (FieldsHalt H S Field) (λ b h fs r e. cc) (fields-halt p S H good halts Field some-field)
       | UniformObject ↦ halt-part p readSharedFields (SharedFieldsHalt H S) shared-fields-used shared-fields-halt
-      | Array ↦ halt-part p readItems (CountedHalts (ItemsHalt H S Item)) items-used (halt-counted (λ n r. got (itemsIn Item n r) [] []) (ItemsHalt H S Item) (items-halt p S H good halts Item))
-      | UniformArray ↦ halt-part p (λ b. bind (readVarUInt b) readSharedItems) (CountedHalts (SharedItemsHalt H S)) shared-items-used (halt-counted readSharedItems (SharedItemsHalt H S) shared-items-halt)
+      | Array ↦ halt-part p readItems (CountedHalts (ItemsHalt H S Item)) items-used
+          (halt-counted (λ n r. got (itemsIn Item n r) [] []) (ItemsHalt H S Item) (items-halt p S H good halts Item))
+      | UniformArray ↦ halt-part p (λ b. bind (readVarUInt b) readSharedItems) (CountedHalts (SharedItemsHalt H S)) shared-items-used
+          (halt-counted readSharedItems (SharedItemsHalt H S) shared-items-halt)
       | Binary ↦ halt-leaf p (λ s. make binary (sized rest s)) TextHalts (halt-make binary (sized rest) TextHalts halt-bytes)
       | String ↦ halt-leaf p (λ s. make string (readText s)) TextHalts (halt-make string readText TextHalts halt-text)
-      | IntegerPositive ↦ halt-leaf p (λ s. make (λ m. integer (pos m)) (readVarUInt s)) NumberHalts (halt-make (λ m. integer (pos m)) readVarUInt NumberHalts halt-number)
-      | IntegerNegative ↦ halt-leaf p readNegative NumberHalts (halt-flag (λ m. integer (negsuc m)) (λ m. not (ltb m (2 ^ 63))) low readVarUInt NumberHalts halt-number)
+      | IntegerPositive ↦ halt-leaf p (λ s. make (λ m. integer (pos m)) (readVarUInt s)) NumberHalts
+          (halt-make (λ m. integer (pos m)) readVarUInt NumberHalts halt-number)
+      | IntegerNegative ↦ halt-leaf p readNegative NumberHalts
+          (halt-flag (λ m. integer (negsuc m)) (λ m. not (ltb m (2 ^ 63))) low readVarUInt NumberHalts halt-number)
       | Float32 ↦ bytes-halt 4 (λ b. float (float32 (fromBytes b)))
-      | Float64 ↦ halt-leaf p readFloat64 (BytesHalt 8) (halt-flag (λ b. float (float64 (fromBytes b))) (λ b. holds (fromBytes b)) wide (fixed 8) (BytesHalt 8) (halt-fixed 8))
+      | Float64 ↦ halt-leaf p readFloat64 (BytesHalt 8)
+          (halt-flag (λ b. float (float64 (fromBytes b))) (λ b. holds (fromBytes b)) wide (fixed 8) (BytesHalt 8) (halt-fixed 8))
       | False ↦ halt-leaf p (λ s. got (bool false) [] s) (λ k s. ⊥) (halt-none (λ s. got (bool false) [] s) (λ s k e. never (sym e)))
       | True ↦ halt-leaf p (λ s. got (bool true) [] s) (λ k s. ⊥) (halt-none (λ s. got (bool true) [] s) (λ s k e. never (sym e)))
       | ObjectAttachment ↦ bytes-halt 20 objectAttachment
@@ -165,19 +188,27 @@ module _ {X : Type 0} (p : Reader X) where
       | DateTime ↦ bytes-halt 8 (λ b. dateTime (fromTwos (fromBytes b)))
       | TimeSpan ↦ bytes-halt 8 (λ b. timeSpan (fromTwos (fromBytes b)))
       | ObjectId ↦ bytes-halt 12 objectId
-      | CustomById ↦ halt-leaf p (sized readCustomById) (SizedHalts NumberHalts) (halt-sized halt-number readCustomById NumberHalts by-id-used (halt-then readVarUInt (λ n r. make (customById n) (rest r)) NumberHalts (λ n r k e. never (sym e)) halt-number))
-      | CustomByName ↦ halt-leaf p (sized readCustomByName) (SizedHalts TextHalts) (halt-sized halt-number readCustomByName TextHalts by-name-used (halt-then readText (λ n r. make (customByName n) (rest r)) TextHalts (λ n r k e. never (sym e)) halt-text))
+      | CustomById ↦ halt-leaf p (sized readCustomById) (SizedHalts NumberHalts)
+          (halt-sized halt-number readCustomById NumberHalts by-id-used
+          (halt-then readVarUInt (λ n r. make (customById n) (rest r)) NumberHalts (λ n r k e. never (sym e)) halt-number))
+      | CustomByName ↦ halt-leaf p (sized readCustomByName) (SizedHalts TextHalts)
+          (halt-sized halt-number readCustomByName TextHalts by-name-used
+          (halt-then readText (λ n r. make (customByName n) (rest r)) TextHalts (λ n r k e. never (sym e)) halt-text))
     ]
       where
         bytes-halt : (n : ℕ) (g : List ℕ → Leaf) → Halt (λ s. bind (make value (make g (fixed n s))) λ h r. whole (contents p h) r) (BytesHalt n)
         bytes-halt n g = halt-leaf p (λ s. make g (fixed n s)) (BytesHalt n) (halt-make g (fixed n) (BytesHalt n) (halt-fixed n))
 
     halt-field : (g : Form) → Halt (readField p g) (FieldHalts H S g)
-    halt-field g = halt-bind (front g) (λ x r. make (λ t. (x .0, (x .1, t))) (readNode p (x .1) r)) (FrontSpells anyForm g) (FrontHalts g) (λ x. NodeHalts H S (x .1)) (front-front any-clean any-number g) (halt-front g)
+    halt-field g =
+        halt-bind (front g) (λ x r. make (λ t. (x .0, (x .1, t))) (readNode p (x .1) r)) (FrontSpells anyForm g) (FrontHalts g) (λ x. NodeHalts H S (x .1))
+        (front-front any-clean any-number g) (halt-front g)
         (λ x. halt-make (λ t. (x .0, (x .1, t))) (readNode p (x .1)) (NodeHalts H S (x .1)) (halt-node (x .1)))
 
 -- every layer
 pub read-halts : (d : ℕ) (g : Form) → Halt (read d g) (HaltsAt d g)
 unfolding read
 read-halts zero g = record { to = λ s k y e. cc; from = λ k s i. rw i }
-read-halts (suc d) g = halt-field (read d) (Spells anyForm d) (HaltsAt d) (read-any d) (read-halts d) (some-field any-clean any-number d) (some-shared any-clean any-number any-some d) g
+read-halts (suc d) g =
+    halt-field (read d) (Spells anyForm d) (HaltsAt d) (read-any d) (read-halts d) (some-field any-clean any-number d)
+    (some-shared any-clean any-number any-some d) g

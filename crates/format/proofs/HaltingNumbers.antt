@@ -37,11 +37,18 @@ cut-begins (b ∷ s) y e = go (ltb (length s) (following b)) refl e
     more n l i =
         let t : List ℕ = replicate (n - length s) 0 in
         let m : length (s ++ t) ≡ n = rw (length-append s t, length-replicate {A = ℕ} (n - length s) 0) (omega arith) in
-        let w : varUInt (b ∷ (s ++ t)) ≡ Whole (valueOf n b (s ++ t)) (suc n) (leb (bound n) (valueOf n b (s ++ t))) = subst (λ k. answer k b (s ++ t) ≡ Whole (valueOf n b (s ++ t)) (suc n) (leb (bound n) (valueOf n b (s ++ t)))) i (answer-whole n b (s ++ t) (omega arith)) in
-        let f = var-form (b ∷ (s ++ t)) (valueOf n b (s ++ t)) (suc n) (leb (bound n) (valueOf n b (s ++ t))) (y .0, padded s (n - length s) (y .1)) w in
-        (valueOf n b (s ++ t), t, rw (length-replicate {A = ℕ} (n - length s) 0) (omega arith), (f .0, f .1, f .2, sym (take-all (suc n) (b ∷ (s ++ t)) (omega arith)) ∙ f .3))
+        let w : varUInt (b ∷ (s ++ t)) ≡ Whole (valueOf n b (s ++ t)) (suc n) (leb (bound n) (valueOf n b (s ++ t))) =
+        subst (λ k. answer k b (s ++ t) ≡ Whole (valueOf n b (s ++ t)) (suc n) (leb (bound n) (valueOf n b (s ++ t)))) i
+        (answer-whole n b (s ++ t) (omega arith)) in
+        let f = var-form (b ∷ (s ++ t)) (valueOf n b (s ++ t)) (suc n) (leb (bound n) (valueOf n b (s ++ t))) (y .0, padded s (n - length s) (y .1)) w in (
+          valueOf n b (s ++ t),
+          t,
+          rw (length-replicate {A = ℕ} (n - length s) 0) (omega arith),
+          (f .0, f .1, f .2, sym (take-all (suc n) (b ∷ (s ++ t)) (omega arith)) ∙ f .3),
+        )
 
-    go : (x : Bool) → ltb (length s) (following b) ≡ x → cond x Cut (Whole (valueOf (following b) b s) (suc (following b)) (leb (bound (following b)) (valueOf (following b) b s))) ≡ Cut → NumberCut (b ∷ s)
+    go : (x : Bool) → ltb (length s) (following b) ≡ x
+        → cond x Cut (Whole (valueOf (following b) b s) (suc (following b)) (leb (bound (following b)) (valueOf (following b) b s))) ≡ Cut → NumberCut (b ∷ s)
     go true l h = more (following b) (ltb-true (length s) (following b) l) refl
     go false l h = absurd (let z : _≡_ {A = ℕ} 0 1 = cc in omega arith)
 
@@ -55,7 +62,8 @@ begins-cut s i = go (varUInt s) refl
         let f = i .3 in
         let a : take n s ++ (drop n s ++ t) ≡ s ++ t = sym (append-assoc (take n s) (drop n s) t) ∙ ap (λ z. z ++ t) (take-append-drop n s) in
         let l : varUInt (s ++ t) ≡ Whole u n m = subst (λ z. varUInt z ≡ Whole u n m) a (var-local s u n m e (drop n s ++ t)) in
-        let r : varUInt (s ++ t) ≡ Whole (i .0) (suc (f .0)) (leb (bound (f .0)) (i .0)) = ap varUInt (f .3) ∙ (rw append-nil at (form-reads (f .0) (i .0) [] (f .1) (f .2))) in
+        let r : varUInt (s ++ t) ≡ Whole (i .0) (suc (f .0)) (leb (bound (f .0)) (i .0)) =
+        ap varUInt (f .3) ∙ (rw append-nil at (form-reads (f .0) (i .0) [] (f .1) (f .2))) in
         let z : n ≡ suc (f .0) = cc in
         let k : length s + length t ≡ suc (f .0) = rw (← length-append s t) (ap length (f .3) ∙ form-length (f .0) (i .0)) in
         absurd (omega (arith, var-range s u n m e .2, i .2, z, k))

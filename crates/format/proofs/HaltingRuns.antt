@@ -26,7 +26,8 @@ module _ {A : Type 0} (p : List ℕ → Out A) (S : A → List ℕ → Type 0) (
   rest-stops : (k : Stop) (o : Out (List A)) (x : A) → bind o (λ xs q. got (x ∷ xs) [] q) ≡ fault k → o ≡ fault k
   rest-stops k o x e = bind-fault o _ e (λ i. i) (λ xs fs q i j. never (sym j))
 
-  pub many-halts : (n : ℕ) (s : List ℕ) (k : Stop) → Bytes s → many p n s ≡ fault k → (xs : List A) × (u t : List ℕ) × (s ≡ u ++ t) × Run S xs u × (length xs < n) × H k t
+  pub many-halts : (n : ℕ) (s : List ℕ) (k : Stop) → Bytes s → many p n s ≡ fault k
+      → (xs : List A) × (u t : List ℕ) × (s ≡ u ++ t) × Run S xs u × (length xs < n) × H k t
   many-halts zero s k y e = never (sym e)
   many-halts (suc n) s k y e = bind-fault (p s) _ e (λ i. ([], [], s, refl, refl, omega arith, h .to s k y i)) (λ x fs q i j.
       let w = f .to s x fs q y i tt in
@@ -42,7 +43,8 @@ module _ {A : Type 0} (p : List ℕ → Out A) (S : A → List ℕ → Type 0) (
       (rw (halts-many n xs (r .1 ++ t) (r .1) t k refl (r .4) (omega arith) i))
 
   module _ (some : (x : A) (w : List ℕ) → S x w → 1 ≤ length w) where
-    pub fill-halts : (n : ℕ) (s : List ℕ) (k : Stop) → Bytes s → length s ≤ n → fill p n s ≡ fault k → (xs : List A) × (u t : List ℕ) × (s ≡ u ++ t) × Run S xs u × (1 ≤ length t) × H k t
+    pub fill-halts : (n : ℕ) (s : List ℕ) (k : Stop) → Bytes s → length s ≤ n → fill p n s ≡ fault k
+        → (xs : List A) × (u t : List ℕ) × (s ≡ u ++ t) × Run S xs u × (1 ≤ length t) × H k t
     fill-halts zero [] k y l e = never (sym e)
     fill-halts zero (b ∷ s) k y l e = absurd (omega arith)
     fill-halts (suc n) [] k y l e = never (sym e)

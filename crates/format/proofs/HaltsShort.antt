@@ -42,7 +42,8 @@ counted-short : (H : ℕ → Stop → List ℕ → Type 0) → ((n : ℕ) (b : L
 counted-short H f s (inl i) = late (i .0)
 counted-short H f s (inr i) = f (i .0) (i .2) (i .5)
 
-module _ {A : Type 0} (H : Form → Stop → List ℕ → Type 0) (S : Form → Named (Standing A) → List ℕ → Type 0) (short : (g : Form) (s : List ℕ) → H g TooLong s → ⊥) where
+module _ {A : Type 0} (H : Form → Stop → List ℕ → Type 0) (S : Form → Named (Standing A) → List ℕ → Type 0)
+    (short : (g : Form) (s : List ℕ) → H g TooLong s → ⊥) where
   items-short : (g : Form) (n : ℕ) (b : List ℕ) → ItemsHalt H S g n TooLong b → ⊥
   items-short g n b i = go (i .2) (length (i .0)) (i .5)
     where
@@ -65,7 +66,8 @@ module _ {A : Type 0} (H : Form → Stop → List ℕ → Type 0) (S : Form → 
   shared-items-short n b (inl i) = type-short SharedByItems b i
   shared-items-short n b (inr i) = go (i .0) (i .1) (i .3)
     where
-      go : (j : Kind) (t : List ℕ) → ((TooLong ≡ BadUniform) × ((n ≡ 0) ⊎ (isBare j ≡ true))) ⊎ ((1 ≤ n) × (isBare j ≡ false) × ItemsHalt H S (SharedItem j) n TooLong t) → ⊥
+      go : (j : Kind) (t : List ℕ)
+          → ((TooLong ≡ BadUniform) × ((n ≡ 0) ⊎ (isBare j ≡ true))) ⊎ ((1 ≤ n) × (isBare j ≡ false) × ItemsHalt H S (SharedItem j) n TooLong t) → ⊥
       go j t (inl e) = bad (e .0)
       go j t (inr e) = items-short (SharedItem j) n t (e .2)
 

@@ -1,5 +1,5 @@
--- The mask of every payload, told without the reader: it halts, and the mask is that fault's value; or it begins with a spelling of a layout, and the mask is the sum of what
--- document 01's table says of that, and of what is left.
+-- The mask of every payload, told without the reader: it halts, and the mask is that fault's value; or it begins with a spelling of a layout, and the mask
+-- is the sum of what document 01's table says of that, and of what is left.
 use Prim.Native.Nat.{ℕ, _+_, _≤_}
 use native.Mathlib.Omega.{arith}
 use mathlib.Core.Path.{_≡_, refl, ap, subst, _∙_}
@@ -29,7 +29,8 @@ not-so l P i = ((λ h p. let e = i .1 p in let z : _≡_ {A = ℕ} 0 1 = cc in o
     from true i f = refl
     from false i f = absurd (f (i .0 refl))
 
-untidy-exactly : (x : Named (Standing (Layout depthLimit))) (w : List ℕ) (l : Bool) → (l ≡ false) ↔ Spells minimalForm depthLimit Top x w → (f : Flaw) → (shownFlaw depthLimit (x .1) l f ≡ true) ↔ Untidy x w f
+untidy-exactly : (x : Named (Standing (Layout depthLimit))) (w : List ℕ) (l : Bool) → (l ≡ false) ↔ Spells minimalForm depthLimit Top x w → (f : Flaw)
+    → (shownFlaw depthLimit (x .1) l f ≡ true) ↔ Untidy x w f
 untidy-exactly x w l i twin = flawed-exactly twin depthLimit (x .1)
 untidy-exactly x w l i blank = flawed-exactly blank depthLimit (x .1)
 untidy-exactly x w l i long = not-so l (Spells minimalForm depthLimit Top x w) i
@@ -39,7 +40,8 @@ untidy-exactly x w l i notText = flawed-exactly notText depthLimit (x .1)
 untidy-exactly x w l i notUniform = flawed-exactly notUniform depthLimit (x .1)
 
 -- of a spelling and something after it: for each flaw a yes or no, yes exactly if the table says so, and the sum of those with a yes
-pub spelling-told : (x : Named (Standing (Layout depthLimit))) (w left : List ℕ) → Bytes (w ++ left) → length (w ++ left) ≤ lengthLimit → Spells anyForm depthLimit Top x w
+pub spelling-told : (x : Named (Standing (Layout depthLimit))) (w left : List ℕ) → Bytes (w ++ left) → length (w ++ left) ≤ lengthLimit
+    → Spells anyForm depthLimit Top x w
     → (so : Flaw → Bool) × ((f : Flaw) → (so f ≡ true) ↔ Untidy x w f) × ((modes : ℕ) → mask modes (w ++ left) ≡ sumWhere modes so flaws + paddingOf modes left)
 spelling-told x w left y k i =
     let m = mask-of-spelling x w left y k i in
@@ -51,7 +53,8 @@ pub mask-told : (s : List ℕ) → Bytes s
     × (so : Flaw → Bool) × ((f : Flaw) → (so f ≡ true) ↔ Untidy x w f) × ((modes : ℕ) → mask modes s ≡ sumWhere modes so flaws + paddingOf modes left))
 mask-told s y = go (halts-or-spells s y)
   where
-    go : ((k : Stop) × Halts k s) ⊎ ((length s ≤ lengthLimit) × (x : Named (Standing (Layout depthLimit))) × (w left : List ℕ) × (s ≡ w ++ left) × Spells anyForm depthLimit Top x w)
+    go : ((k : Stop) × Halts k s)
+        ⊎ ((length s ≤ lengthLimit) × (x : Named (Standing (Layout depthLimit))) × (w left : List ℕ) × (s ≡ w ++ left) × Spells anyForm depthLimit Top x w)
         → ((k : Stop) × Halts k s × ((modes : ℕ) → mask modes s ≡ stopValue k))
         ⊎ ((x : Named (Standing (Layout depthLimit))) × (w left : List ℕ) × (length s ≤ lengthLimit) × (s ≡ w ++ left) × Spells anyForm depthLimit Top x w
         × (so : Flaw → Bool) × ((f : Flaw) → (so f ≡ true) ↔ Untidy x w f) × ((modes : ℕ) → mask modes s ≡ sumWhere modes so flaws + paddingOf modes left))

@@ -1,5 +1,5 @@
--- Payloads beside their layouts, and beside the stopping faults they halt with: spelled out by hand in the grammar (specs/Spells.antt, Halts.antt), and a list of those that halt,
--- one or more for each clause, with the mask computed.
+-- Payloads beside their layouts, and beside the stopping faults they halt with: spelled out by hand in the grammar (specs/Spells.antt, Halts.antt), and a
+-- list of those that halt, one or more for each clause, with the mask computed.
 use Prim.Native.Nat.{ℕ, zero, suc, _<_}
 use native.Mathlib.Omega.{arith}
 use mathlib.Core.Path.{_≡_, refl}
@@ -54,8 +54,13 @@ pub counted : Spells anyForm 2 Top ([], (UniformArray, array (at 1 .1 ∷ at 2 .
 unfolding isBare
 counted =
     let small : (n : ℕ) → n < 128 → n ∷ [] ≡ form 0 n → Small n = λ n l e. (0, omega arith, l, e) in
-    let items : Run (Spells anyForm 1 (SharedItem IntegerPositive)) (at 1 ∷ at 2 ∷ at 3 ∷ []) (0x01 ∷ 0x02 ∷ 0x03 ∷ []) =
-    (0x01 ∷ [], 0x02 ∷ 0x03 ∷ [], refl, number 1 (small 1 (omega arith) refl), (0x02 ∷ [], 0x03 ∷ [], refl, number 2 (small 2 (omega arith) refl), (0x03 ∷ [], [], refl, number 3 (small 3 (omega arith) refl), refl))) in (
+    let items : Run (Spells anyForm 1 (SharedItem IntegerPositive)) (at 1 ∷ at 2 ∷ at 3 ∷ []) (0x01 ∷ 0x02 ∷ 0x03 ∷ []) = (
+      0x01 ∷ [],
+      0x02 ∷ 0x03 ∷ [],
+      refl,
+      number 1 (small 1 (omega arith) refl),
+      (0x02 ∷ [], 0x03 ∷ [], refl, number 2 (small 2 (omega arith) refl), (0x03 ∷ [], [], refl, number 3 (small 3 (omega arith) refl), refl)),
+    ) in (
       0x05 ∷ [],
       0x05 ∷ 0x03 ∷ 0x08 ∷ 0x01 ∷ 0x02 ∷ 0x03 ∷ [],
       refl,
@@ -65,7 +70,14 @@ counted =
         0x03 ∷ 0x08 ∷ 0x01 ∷ 0x02 ∷ 0x03 ∷ [],
         refl,
         small 5 (omega arith) refl,
-        (3, 0x03 ∷ [], 0x08 ∷ 0x01 ∷ 0x02 ∷ 0x03 ∷ [], refl, small 3 (omega arith) refl, (IntegerPositive, 0x01 ∷ 0x02 ∷ 0x03 ∷ [], refl, omega arith, refl, (at 1 ∷ at 2 ∷ at 3 ∷ [], refl, refl, items))),
+        (
+          3,
+          0x03 ∷ [],
+          0x08 ∷ 0x01 ∷ 0x02 ∷ 0x03 ∷ [],
+          refl,
+          small 3 (omega arith) refl,
+          (IntegerPositive, 0x01 ∷ 0x02 ∷ 0x03 ∷ [], refl, omega arith, refl, (at 1 ∷ at 2 ∷ at 3 ∷ [], refl, refl, items)),
+        ),
       ),
     )
 
@@ -108,7 +120,19 @@ pub no-byte : Halts Early []
 no-byte = inr (omega arith, inl (inl (refl, refl)))
 
 pub no-field : Halts BadUniform (0x03 ∷ 0x01 ∷ 0x08 ∷ [])
-no-field = inr (omega arith, inr (([], UniformObject), 0x03 ∷ [], 0x01 ∷ 0x08 ∷ [], refl, (refl, refl), inr (0x01 ∷ [], 0x08 ∷ [], [], refl, (0, omega arith, omega arith, refl), inr (IntegerPositive, [], refl, inl (refl, refl)))))
+no-field =
+    inr (
+      omega arith,
+      inr (
+        ([], UniformObject),
+        0x03 ∷ [],
+        0x01 ∷ 0x08 ∷ [],
+        refl,
+        (refl, refl),
+        inr
+            (0x01 ∷ [], 0x08 ∷ [], [], refl, (0, omega arith, omega arith, refl), inr (IntegerPositive, [], refl, inl (refl, refl))),
+      ),
+    )
 
 -- ---- halting, clause by clause
 
@@ -163,7 +187,8 @@ bytes-of : (s : List ℕ) → all (λ b. ltb b 256) s ≡ true → Bytes s
 bytes-of [] h = tt
 bytes-of (b ∷ s) h = let i = and-true (ltb b 256) (all (λ b. ltb b 256) s) h in (ltb-true b 256 (i .0), bytes-of s (i .1))
 
-told : (es : List (Stop × List ℕ)) → map (λ e. mask boundsOnly (e .1)) es ≡ map (λ e. stopValue (e .0)) es → all (λ e. all (λ b. ltb b 256) (e .1)) es ≡ true → All (λ e. Halts (e .0) (e .1)) es
+told : (es : List (Stop × List ℕ)) → map (λ e. mask boundsOnly (e .1)) es ≡ map (λ e. stopValue (e .0)) es
+    → all (λ e. all (λ b. ltb b 256) (e .1)) es ≡ true → All (λ e. Halts (e .0) (e .1)) es
 told [] h y = tt
 told (e ∷ es) h y =
     let i = and-true (all (λ b. ltb b 256) (e .1)) (all (λ e. all (λ b. ltb b 256) (e .1)) es) y in

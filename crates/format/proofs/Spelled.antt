@@ -1,4 +1,5 @@
--- The reader reads exactly the spellings of layouts (specs/Spells.antt): whatever it reads is one, and it reads each. Once for any VarUInts, once for minimal ones and no flaw `long`.
+-- The reader reads exactly the spellings of layouts (specs/Spells.antt): whatever it reads is one, and it reads each. Once for any VarUInts, once for
+-- minimal ones and no flaw `long`.
 use Prim.Native.Nat.{ℕ, _+_, _≤_}
 use native.Mathlib.Omega.{arith}
 use mathlib.Core.Path.{_≡_, refl, sym, ap, subst, _∙_}
@@ -29,11 +30,14 @@ read-any = read-spells any-clean any-number any-some
 pub read-minimal : (d : ℕ) (g : Form) → Front NoLong (read d g) (Spells minimalForm d g)
 read-minimal = read-spells no-long-clean minimal-number minimal-some
 
--- the bounds check passes a payload exactly if it is within the length limit and begins with a spelling of a layout, which may have as many levels as the limit says
+-- the bounds check passes a payload exactly if it is within the length limit and begins with a spelling of a layout, which may have as many levels as the
+-- limit says
 pub bounds-exactly-spellings : (s : List ℕ) → Bytes s
-    → (mask boundsOnly s ≡ 0) ↔ ((length s ≤ lengthLimit) × (x : Named (Standing (Layout depthLimit))) × (w left : List ℕ) × (s ≡ w ++ left) × Spells anyForm depthLimit Top x w)
+    → (mask boundsOnly s ≡ 0) ↔ ((length s ≤ lengthLimit) × (x : Named (Standing (Layout depthLimit))) × (w left : List ℕ) × (s ≡ w ++ left)
+    × Spells anyForm depthLimit Top x w)
 bounds-exactly-spellings s y = (
-  (λ h. mask-case boundsOnly s h λ l m. bounds-case (read depthLimit Top s) m λ x fs r e. let i = read-any depthLimit Top .to s x fs r y e tt in (l, x, i .0, r, i .1, i .2)),
+  (λ h. mask-case boundsOnly s h λ l m. bounds-case (read depthLimit Top s) m λ x fs r e. let i = read-any depthLimit Top .to s x fs r y e tt in
+      (l, x, i .0, r, i .1, i .2)),
   (λ i. let j = read-any depthLimit Top .from (i .1) (i .2) (i .5) (i .3) in
       let e : read depthLimit Top s ≡ got (i .1) (j .0) (i .3) = subst (λ s. read depthLimit Top s ≡ got (i .1) (j .0) (i .3)) (sym (i .4)) (j .2) in
       rw (mask-short boundsOnly s (i .0), e) (zero-mask (i .1) (j .0) (i .3))),
@@ -64,7 +68,8 @@ same-front w u r e =
     sym (take-at w r (length w) refl) ∙ (ap (take (length w)) e ∙ take-at u r (length w) k)
 
 -- a payload is a spelling of one layout at most, and what is left behind it is told
-pub one-layout : (d : ℕ) (x y : Named (Standing (Layout d))) (w u r q : List ℕ) → Spells anyForm d Top x w → Spells anyForm d Top y u → w ++ r ≡ u ++ q → (x ≡ y) × (r ≡ q)
+pub one-layout : (d : ℕ) (x y : Named (Standing (Layout d))) (w u r q : List ℕ) → Spells anyForm d Top x w → Spells anyForm d Top y u → w ++ r ≡ u ++ q
+    → (x ≡ y) × (r ≡ q)
 one-layout d x y w u r q i j e =
     let a = read-any d Top .from x w i r in
     let b = read-any d Top .from y u j q in
@@ -72,17 +77,21 @@ one-layout d x y w u r q i j e =
     (cc, cc)
 
 -- its mask is the sum of the flaws that the layout has, of `long` if its VarUInts are not all minimal, and of what is left
-pub mask-of-spelling : (x : Named (Standing (Layout depthLimit))) (w left : List ℕ) → Bytes (w ++ left) → length (w ++ left) ≤ lengthLimit → Spells anyForm depthLimit Top x w
-    → (l : Bool) × ((l ≡ false) ↔ Spells minimalForm depthLimit Top x w) × ((modes : ℕ) → mask modes (w ++ left) ≡ sumWhere modes (shownFlaw depthLimit (x .1) l) flaws + paddingOf modes left)
+pub mask-of-spelling : (x : Named (Standing (Layout depthLimit))) (w left : List ℕ) → Bytes (w ++ left) → length (w ++ left) ≤ lengthLimit
+    → Spells anyForm depthLimit Top x w
+    → (l : Bool) × ((l ≡ false) ↔ Spells minimalForm depthLimit Top x w)
+    × ((modes : ℕ) → mask modes (w ++ left) ≡ sumWhere modes (shownFlaw depthLimit (x .1) l) flaws + paddingOf modes left)
 mask-of-spelling x w left y k i =
     let a = read-any depthLimit Top .from x w i left in (
       has long (a .0),
       (
-        (λ h. let m = read-minimal depthLimit Top .to (w ++ left) x (a .0) left y (a .2) h in subst (λ u. Spells minimalForm depthLimit Top x u) (sym (same-front w (m .0) left (m .1))) (m .2)),
+        (λ h. let m = read-minimal depthLimit Top .to (w ++ left) x (a .0) left y (a .2) h in subst (λ u. Spells minimalForm depthLimit Top x u)
+            (sym (same-front w (m .0) left (m .1))) (m .2)),
         (λ h. let m = read-minimal depthLimit Top .from x w h left in
             let e : got x (a .0) left ≡ got x (m .0) left = sym (a .2) ∙ m .2 in
             let z : m .0 ≡ a .0 = cc in
             subst (λ fs. has long fs ≡ false) z (m .1)),
       ),
-      λ modes. rw (mask-short modes (w ++ left) k, a .2) (ap (λ n. n + paddingOf modes left) (sum-where modes (a .0) _ (flaws-of-read depthLimit (w ++ left) x (a .0) left (a .2)) flaws)),
+      λ modes. rw (mask-short modes (w ++ left) k, a .2)
+          (ap (λ n. n + paddingOf modes left) (sum-where modes (a .0) _ (flaws-of-read depthLimit (w ++ left) x (a .0) left (a .2)) flaws)),
     )

@@ -77,7 +77,8 @@ number-to {X} s v fs r h k = go (varUInt s) refl h
         let x : u ≡ v = cc in
         let l : length (take n s) ≡ n = length-take-le n s (var-range s u n m e .2) in
         let a : varUInt (take n s) ≡ Whole u n m = subst (λ z. varUInt z ≡ Whole u n m) (append-nil (take n s)) (var-local s u n m e []) in
-        k (take n s) m (rw (← y) (sym (take-append-drop n s))) (rw (← x, l) a) (subst (λ z. raise (not m) long (got z [] r) ≡ got v fs r) x (subst (λ z. raise (not m) long (got u [] z) ≡ got v fs r) y h))
+        k (take n s) m (rw (← y) (sym (take-append-drop n s))) (rw (← x, l) a)
+        (subst (λ z. raise (not m) long (got z [] r) ≡ got v fs r) x (subst (λ z. raise (not m) long (got u [] z) ≡ got v fs r) y h))
 
 -- ---- no shorter form is the encoded one
 
@@ -105,7 +106,11 @@ encoded-any v h =
     (f .0, f .1, f .2, sym (take-length (encoded v)) ∙ f .3)
 
 encoded-minimal : (v : ℕ) (u : List ℕ) → Encoded v u → minimalForm v u
-encoded-minimal v u i = (rw (i .1) (encoded-any v (i .0)), λ t j. rw (i .1, ← measured (reached bounds v) v refl, j .3, form-length (j .0) v) (omega (arith, reached-below bounds v (j .0) (2 ^ 64) (j .2))))
+encoded-minimal v u i = (
+  rw (i .1) (encoded-any v (i .0)),
+  λ t j. rw (i .1, ← measured (reached bounds v) v refl, j .3, form-length (j .0) v)
+      (omega (arith, reached-below bounds v (j .0) (2 ^ 64) (j .2))),
+)
 
 minimal-encoded : (v : ℕ) (u : List ℕ) → minimalForm v u → Encoded v u
 minimal-encoded v u i = (omega (arith, limit-whole (f .0) (f .1), f .2), go (f .0) (f .1) (f .2) (f .3) (leb (bound (f .0)) v) refl)
@@ -115,7 +120,15 @@ minimal-encoded v u i = (omega (arith, limit-whole (f .0) (f .1), f .2), go (f .
 
     shorter : (n : ℕ) → n ≤ 8 → u ≡ form n v → v < bound n → ⊥
     shorter zero l e h = omega arith
-    shorter (suc m) l e h = omega (arith, i .1 (form m v) (m, omega arith, rw (← default-any bounds m 0 (2 ^ 64) (omega arith)) h, refl), ap length e, form-length (suc m) v, form-length m v)
+    shorter (suc m) l e h =
+        omega (
+          arith,
+          i .1 (form m v) (m, omega arith, rw (← default-any bounds m 0 (2 ^ 64) (omega arith)) h, refl),
+          ap length e,
+          form-length
+              (suc m) v,
+          form-length m v,
+        )
 
     go : (n : ℕ) → n ≤ 8 → v < limit n → u ≡ form n v → (x : Bool) → leb (bound n) v ≡ x → u ≡ encoded v
     go n l h e true k = e ∙ sym (encoded-at n v (needed-at n v l (leb-true (bound n) v k) h))
@@ -123,7 +136,8 @@ minimal-encoded v u i = (omega (arith, limit-whole (f .0) (f .1), f .2), go (f .
 
 pub any-number : Front Any readVarUInt anyForm
 any-number = record {
-  to = λ s v fs r y e c. number-to s v fs r e λ w m i j k. let f = var-form w v (length w) m (bytes-left _ w r y i) j in (w, i, (f .0, f .1, f .2, sym (take-length w) ∙ f .3));
+  to = λ s v fs r y e c. number-to s v fs r e λ w m i j k. let f = var-form w v (length w) m (bytes-left _ w r y i) j in
+      (w, i, (f .0, f .1, f .2, sym (take-length w) ∙ f .3));
   from = λ v w x r. go v w (leb (bound (x .0)) v) (rw (x .3, form-length (x .0) v) (rw (append-nil (form (x .0) v)) at (form-reads (x .0) v [] (x .1) (x .2)))) r;
 }
   where
@@ -137,7 +151,8 @@ encoded-number = record {
   from = λ v w x r. ([], refl, rw (x .1) (number-rt v r (x .0)));
 }
   where
-    go : (v : ℕ) (w : List ℕ) (fs : List Flaw) (r : List ℕ) (m : Bool) → Bytes w → varUInt w ≡ Whole v (length w) m → raise (not m) long (got v [] r) ≡ got v fs r → has long fs ≡ false → Encoded v w
+    go : (v : ℕ) (w : List ℕ) (fs : List Flaw) (r : List ℕ) (m : Bool) → Bytes w → varUInt w ≡ Whole v (length w) m
+        → raise (not m) long (got v [] r) ≡ got v fs r → has long fs ≡ false → Encoded v w
     go v w fs r true y e k c = let i = var-inv w v (length w) y e in (i .0, i .2 ∙ (ap (λ z. encoded v ++ z) (drop-length w) ∙ append-nil (encoded v)))
     go v w fs r false y e k c = absurd (let z : _≡_ {A = ℕ} 0 1 = cc in omega arith)
 

@@ -1,5 +1,5 @@
--- The mask tied to the payload, for the page of demands: what was read, its flaws and its stopping fault, each exactly what document 01 says, with the grammar of spellings
--- (specs/Spells.antt), what breaks it (specs/Halts.antt) and the table of flaws (specs/FlawTable.antt). The proofs are citations.
+-- The mask tied to the payload, for the page of demands: what was read, its flaws and its stopping fault, each exactly what document 01 says, with the
+-- grammar of spellings (specs/Spells.antt), what breaks it (specs/Halts.antt) and the table of flaws (specs/FlawTable.antt). The proofs are citations.
 use Prim.Native.Nat.{ℕ, _+_, _≤_, _<_}
 use mathlib.Core.Path.{_≡_}
 use mathlib.Core.Logic.{_↔_, _⊎_}
@@ -27,8 +27,9 @@ use Rattle.format.proofs.MaskTold as told
 
 -- ---- every payload
 
--- it halts, with one stopping fault, which is the whole mask whatever is asked; or it begins with a spelling of a layout, and for each flaw there is a yes or no, yes exactly if
--- the table says so, and the mask is the sum of those with a yes, each once where its mode is asked, and of what is left where Padding is. No word of the reader
+-- it halts, with one stopping fault, which is the whole mask whatever is asked; or it begins with a spelling of a layout, and for each flaw there is a yes
+-- or no, yes exactly if the table says so, and the mask is the sum of those with a yes, each once where its mode is asked, and of what is left where Padding
+-- is. No word of the reader
 pub mask-told : (payload : List ℕ) → Bytes payload
     → ((k : Stop) × Halts k payload × ((modes : ℕ) → mask modes payload ≡ stopValue k))
     ⊎ ((x : Named (Standing (Layout depthLimit))) × (w left : List ℕ) × (length payload ≤ lengthLimit) × (payload ≡ w ++ left) × Spells anyForm depthLimit Top x w
@@ -55,9 +56,11 @@ halts-not-spells = halted.halts-not-spells
 
 -- ---- spellings
 
--- the bounds check passes a payload exactly if it is within the length limit and begins with a spelling of a layout of at most 32 levels, with any form of each VarUInt
+-- the bounds check passes a payload exactly if it is within the length limit and begins with a spelling of a layout of at most 32 levels, with any form of
+-- each VarUInt
 pub bounds-exactly-spellings : (payload : List ℕ) → Bytes payload
-    → (mask boundsOnly payload ≡ 0) ↔ ((length payload ≤ lengthLimit) × (x : Named (Standing (Layout depthLimit))) × (w left : List ℕ) × (payload ≡ w ++ left) × Spells anyForm depthLimit Top x w)
+    → (mask boundsOnly payload ≡ 0) ↔ ((length payload ≤ lengthLimit) × (x : Named (Standing (Layout depthLimit))) × (w left : List ℕ) × (payload ≡ w ++ left)
+    × Spells anyForm depthLimit Top x w)
 bounds-exactly-spellings = spelled.bounds-exactly-spellings
 
 -- of one layout at most, and what is left is told
@@ -66,18 +69,21 @@ pub one-layout : (d : ℕ) (x y : Named (Standing (Layout d))) (w u left rest : 
 one-layout = spelled.one-layout
 
 -- its mask
-pub mask-of-spelling : (x : Named (Standing (Layout depthLimit))) (w left : List ℕ) → Bytes (w ++ left) → length (w ++ left) ≤ lengthLimit → Spells anyForm depthLimit Top x w
+pub mask-of-spelling : (x : Named (Standing (Layout depthLimit))) (w left : List ℕ) → Bytes (w ++ left) → length (w ++ left) ≤ lengthLimit
+    → Spells anyForm depthLimit Top x w
     → (so : Flaw → Bool) × ((f : Flaw) → (so f ≡ true) ↔ Untidy x w f) × ((modes : ℕ) → mask modes (w ++ left) ≡ sumWhere modes so flaws + paddingOf modes left)
 mask-of-spelling = told.spelling-told
 
 -- ---- what was read
 
 -- the mask is the sum of the flaws that were met and of what is left
-pub mask-of-shown : (payload : List ℕ) (shown : ShownPayload payload) (modes : ℕ) → mask modes payload ≡ sumOf modes (shown .flaws) flaws + paddingOf modes (shown .left)
+pub mask-of-shown : (payload : List ℕ) (shown : ShownPayload payload) (modes : ℕ)
+    → mask modes payload ≡ sumOf modes (shown .flaws) flaws + paddingOf modes (shown .left)
 mask-of-shown = met.mask-of-shown
 
 -- each but 64 was met exactly if some field of the layout shown has what the table says
-pub met-exactly : (payload : List ℕ) (shown : ShownPayload payload) (f : Flaw) → (f ≡ long → ⊥) → (has f (shown .flaws) ≡ true) ↔ HasFlaw f depthLimit (shown .kind, shown .layout)
+pub met-exactly : (payload : List ℕ) (shown : ShownPayload payload) (f : Flaw) → (f ≡ long → ⊥)
+    → (has f (shown .flaws) ≡ true) ↔ HasFlaw f depthLimit (shown .kind, shown .layout)
 met-exactly = exactly.met-exactly
 
 -- 64 was not met exactly if every VarUInt is in its minimal form

@@ -41,14 +41,16 @@ tells-got f c P a r h = record { says = subst (P a) (sym (or-false c)) h }
 tells-with : {A : Type 0} (f : Flaw) (c : Bool) (P : A → Bool → Type 0) (fs : List Flaw) (o : Out A) → Tells f (c || has f fs) P o → Tells f c P (withFlaws fs o)
 tells-with f c P [] o h = subst (λ b. Tells f b P o) (or-false c) h
 tells-with f c P (g ∷ fs) (fault k) h = record { says = tt }
-tells-with f c P (g ∷ fs) (got a gs r) h = record { says = subst (P a) (or-assoc c (has f (g ∷ fs)) (has f gs) ∙ ap (λ b. c || b) (sym (any-append (λ g. is f g) (g ∷ fs) gs))) (h .says) }
+tells-with f c P (g ∷ fs) (got a gs r) h =
+    record { says = subst (P a) (or-assoc c (has f (g ∷ fs)) (has f gs) ∙ ap (λ b. c || b) (sym (any-append (λ g. is f g) (g ∷ fs) gs))) (h .says) }
 
 pub tells-bind : {A B : Type 0} (f : Flaw) (c : Bool) (P : A → Bool → Type 0) (Q : B → Bool → Type 0) (o : Out A) (k : A → List ℕ → Out B)
     → Tells f c P o → ((a : A) (r : List ℕ) (b : Bool) → P a b → Tells f b Q (k a r)) → Tells f c Q (bind o k)
 tells-bind f c P Q (fault n) k h g = record { says = tt }
 tells-bind f c P Q (got a fs r) k h g = tells-with f c Q fs (k a r) (g a r (c || has f fs) (h .says))
 
-pub tells-raise : {A : Type 0} (f : Flaw) (c : Bool) (P : A → Bool → Type 0) (x : Bool) (g : Flaw) (o : Out A) → Tells f (c || (is f g && x)) P o → Tells f c P (raise x g o)
+pub tells-raise : {A : Type 0} (f : Flaw) (c : Bool) (P : A → Bool → Type 0) (x : Bool) (g : Flaw) (o : Out A) → Tells f (c || (is f g && x)) P o
+    → Tells f c P (raise x g o)
 tells-raise f c P false g o h = subst (λ b. Tells f b P o) (ap (λ b. c || b) (and-false (is f g)) ∙ or-false c) h
 tells-raise f c P true g o h = tells-with f c P (g ∷ []) o (subst (λ b. Tells f (c || b) P o) (go (is f g)) h)
   where

@@ -1,5 +1,5 @@
--- The table of the faults that do not stop (document 01, "The mask"), read of a field by itself (Flawed.antt, `Part`) in 01's words, as lists and not as tests. That the tests
--- of Flawed.antt come to this is proofs/FlawsExactly.antt. `long` is about bytes that a layout does not have.
+-- The table of the faults that do not stop (document 01, "The mask"), read of a field by itself (Flawed.antt, `Part`) in 01's words, as lists and not as
+-- tests. That the tests of Flawed.antt come to this is proofs/FlawsExactly.antt. `long` is about bytes that a layout does not have.
 use Prim.Native.Nat.{ℕ, _^_, _≤_}
 use mathlib.Core.Path.{_≡_}
 use mathlib.Core.Logic.{_⊎_}

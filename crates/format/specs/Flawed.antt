@@ -1,5 +1,5 @@
--- What the flaws are, told by a layout alone: each by a test of one field and the kinds of the fields in it (document 01, "The mask"). The reader is no part of this;
--- that the flaws it meets are these is proofs/FlawsMet.antt. `long` is about bytes that a layout does not have.
+-- What the flaws are, told by a layout alone: each by a test of one field and the kinds of the fields in it (document 01, "The mask"). The reader is no part
+-- of this; that the flaws it meets are these is proofs/FlawsMet.antt. `long` is about bytes that a layout does not have.
 use Prim.Native.Nat.{ℕ, zero, suc, _+_, _^_}
 use mathlib.Core.Bool.{Bool, false, not, _&&_, _||_, cond}
 use mathlib.Core.List.{List, [], _∷_, _++_, map}

@@ -1,5 +1,6 @@
--- Which stopping fault a payload has (document 01, "The mask", "The first one met in document order", and "Order at a field"): all before it is spelled, with any VarUInts
--- (Spells.antt), and then this breaks. Each says of the bytes s, all that remain in the container, that they break with k. The reader is no part of this.
+-- Which stopping fault a payload has (document 01, "The mask", "The first one met in document order", and "Order at a field"): all before it is spelled,
+-- with any VarUInts (Spells.antt), and then this breaks. Each says of the bytes s, all that remain in the container, that they break with k. The reader is
+-- no part of this.
 use Prim.Native.Nat.{ℕ, zero, suc, _≤_, _<_}
 use mathlib.Core.Path.{_≡_}
 use mathlib.Core.Logic.{_⊎_}

@@ -1,5 +1,5 @@
--- Every spelling of a layout, as a grammar (document 01, "Kinds and payloads"): which bytes stand for it. The reader is no part of this. Num says which bytes stand for a
--- number: any VarUInt of it, or the minimal one only.
+-- Every spelling of a layout, as a grammar (document 01, "Kinds and payloads"): which bytes stand for it. The reader is no part of this. Num says which
+-- bytes stand for a number: any VarUInt of it, or the minimal one only.
 use Prim.Native.Nat.{ℕ, zero, suc, _^_, _≤_, _<_}
 use mathlib.Core.Path.{_≡_}
 use mathlib.Core.Bool.{true, false}
