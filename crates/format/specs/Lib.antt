@@ -11,6 +11,10 @@ pub mod Places
 pub mod Contents
 pub mod Values
 pub mod Show
+pub mod Flawed
+pub mod Spells
+pub mod FlawTable
+pub mod Halts
 pub mod Stepping
 pub mod Siblings
 pub mod Views

@@ -123,7 +123,7 @@ pub answer-whole : (n b : ℕ) (s : List ℕ) → n ≤ length s → answer n b 
 answer-whole n b s h = rw (le-ltb (length s) n)
 
 -- the form with n bytes behind the first reads back as its value
-form-reads : (n v : ℕ) (r : List ℕ) → n ≤ 8 → v < limit n → varUInt (form n v ++ r) ≡ Whole v (suc n) (leb (bound n) v)
+pub form-reads : (n v : ℕ) (r : List ℕ) → n ≤ 8 → v < limit n → varUInt (form n v ++ r) ≡ Whole v (suc n) (leb (bound n) v)
 unfolding varUInt
 form-reads n v r h l =
     let a : lead n + v / 256 ^ n - lead n ≡ v / 256 ^ n = omega arith in
@@ -132,7 +132,7 @@ form-reads n v r h l =
     let w : n ≤ length (toBytes n v ++ r) = omega (arith, length-append (toBytes n v) r, to-length n v) in
     rw (is-following n (lead n + v / 256 ^ n) (first-byte n v h l), answer-whole n (lead n + v / 256 ^ n) (toBytes n v ++ r) w, e)
 
-form-length : (n v : ℕ) → length (form n v) ≡ suc n
+pub form-length : (n v : ℕ) → length (form n v) ≡ suc n
 form-length n v = ap suc (to-length n v)
 
 pub encoded-length : (v : ℕ) → (1 ≤ length (encoded v)) × (length (encoded v) ≤ 9)
@@ -219,6 +219,15 @@ var-inv (b ∷ s) v n w h = go (following b) (following-is b (w .0)) h
         let m : bound k ≤ v = omega (arith, leb-true (bound k) (valueOf k b s) (i .minimal), i .value) in
         let e : encoded v ≡ b ∷ take k s = encoded-at k v (needed-at k v (f .most) m l) ∙ form-is k b s v n true f (w .1) i in
         (omega (arith, limit-whole k (f .most)), rw (e, length-take-le k s (i .room)) (i .length-is), rw (e, i .length-is) (ap (λ t. b ∷ t) (sym (take-append-drop k s))))
+
+-- whatever is read is the form of its value with some number of bytes behind the first
+pub var-form : (s : List ℕ) (v n : ℕ) (m : Bool) → Bytes s → varUInt s ≡ Whole v n m → (k : ℕ) × (k ≤ 8) × (v < limit k) × (take n s ≡ form k v)
+unfolding varUInt
+var-form [] v n m w h = let z : _≡_ {A = ℕ} 0 1 = cc in absurd (omega arith)
+var-form (b ∷ s) v n m w h = go (following b) (following-is b (w .0)) h
+  where
+    go : (k : ℕ) → Following k b → answer k b s ≡ Whole v n m → (k : ℕ) × (k ≤ 8) × (v < limit k) × (take n (b ∷ s) ≡ form k v)
+    go k f h = let i = made k b s v n m h in (k, f .most, below k b s v n m f (w .1) i, rw (i .length-is) (sym (form-is k b s v n m f (w .1) i)))
 
 pub var-local : (s : List ℕ) (v n : ℕ) (m : Bool) → varUInt s ≡ Whole v n m → (t : List ℕ) → varUInt (take n s ++ t) ≡ Whole v n m
 unfolding varUInt
