@@ -11,10 +11,6 @@ pub mod Places
 pub mod Contents
 pub mod Values
 pub mod Show
-pub mod Flawed
-pub mod Spells
-pub mod FlawTable
-pub mod Halts
 pub mod Stepping
 pub mod Siblings
 pub mod Views

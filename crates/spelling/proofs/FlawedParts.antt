@@ -1,0 +1,102 @@
+-- One field's tests (specs/Flawed.antt) of a leaf, an array and an object, by which flaw it is.
+use Prim.Native.Nat.{ℕ, _^_}
+use mathlib.Core.Path.{_≡_, refl, sym, ap}
+use mathlib.Core.Bool.{Bool, true, false, not, _&&_, _||_, cond, and-false, or-false}
+use mathlib.Core.List.{List, [], _∷_, map}
+use lib.Dec.{ltb}
+use lib.IntN.{negsuc}
+use Rattle.text.specs.Utf8.{isText}
+use Rattle.float.specs.Rule.{holds}
+use Rattle.float.specs.Width.{isNan64}
+use Rattle.format.specs.declared.Kind.{Kind}
+use Rattle.format.specs.declared.Kind.the-variants.{Object, Array, IntegerNegative, Float64}
+use Rattle.format.specs.Kinds.{same, any, isUniform, isUniformArray}
+use Rattle.format.specs.Parse.{Flaw, twin, blank, long, low, wide, notText, notUniform, number}
+use Rattle.format.specs.Names.{isEmpty, twins}
+use Rattle.format.specs.Tree.{Leaf, integer, float, atom, array, object}
+use Rattle.format.specs.Payload.{float64}
+use Rattle.format.specs.Reader.{Named, namesIn}
+use Rattle.format.specs.Values.{floatBits, sortOf}
+use Rattle.spelling.specs.Flawed.{leafTexts, isLow, isHeld, flawedPart}
+use Rattle.spelling.proofs.AnyLaws.{any-map, any-none}
+use Rattle.spelling.proofs.Tells.{is}
+
+-- one field's tests, by which flaw it is
+pub leaf-none : (f : Flaw) (k : Kind) (v : Leaf) → leafTexts v ≡ [] → isLow (sortOf v) ≡ false → (same k Float64 && isHeld (sortOf v)) ≡ false
+    → flawedPart f k (atom v) ≡ false
+unfolding isUniform isUniformArray twins
+leaf-none twin k v i j l = refl
+leaf-none blank k v i j l = refl
+leaf-none long k v i j l = refl
+leaf-none low k v i j l = j
+leaf-none wide k v i j l = l
+leaf-none notText k v i j l = rw i
+leaf-none notUniform k v i j l = rw (and-false (same k Object), and-false (same k Array))
+
+pub leaf-text : (f : Flaw) (k : Kind) (v : Leaf) (t : List ℕ) → leafTexts v ≡ t ∷ [] → isLow (sortOf v) ≡ false → (same k Float64 && isHeld (sortOf v)) ≡ false
+    → flawedPart f k (atom v) ≡ (is f notText && not (isText t))
+unfolding isUniform isUniformArray twins
+leaf-text twin k v t i j l = refl
+leaf-text blank k v t i j l = refl
+leaf-text long k v t i j l = refl
+leaf-text low k v t i j l = j
+leaf-text wide k v t i j l = l
+leaf-text notText k v t i j l = rw i (or-false (not (isText t)))
+leaf-text notUniform k v t i j l = rw (and-false (same k Object), and-false (same k Array))
+
+pub leaf-low : (f : Flaw) (m : ℕ) → flawedPart f IntegerNegative (atom (integer (negsuc m))) ≡ (is f low && not (ltb m (2 ^ 63)))
+unfolding isUniform isUniformArray twins
+leaf-low twin m = refl
+leaf-low blank m = refl
+leaf-low long m = refl
+leaf-low low m = refl
+leaf-low wide m = refl
+leaf-low notText m = refl
+leaf-low notUniform m = refl
+
+bits-back : (b : ℕ) → floatBits (float64 b) ≡ b
+bits-back b = go (isNan64 b)
+  where
+    go : (x : Bool) → floatBits (cond x (Rattle.format.specs.Tree.nan64 b) (Rattle.format.specs.Tree.number b)) ≡ b
+    go true = refl
+    go false = refl
+
+pub leaf-wide : (f : Flaw) (b : ℕ) → flawedPart f Float64 (atom (float (float64 b))) ≡ (is f wide && holds b)
+unfolding isUniform isUniformArray twins
+leaf-wide twin b = refl
+leaf-wide blank b = refl
+leaf-wide long b = refl
+leaf-wide low b = refl
+leaf-wide wide b = ap holds (bits-back b)
+leaf-wide notText b = refl
+leaf-wide notUniform b = refl
+
+pub array-is : (f : Flaw) (k : Kind) (ks : List Kind) → same k Object ≡ false → flawedPart f k (array ks) ≡ (is f notUniform && (same k Array && isUniformArray ks))
+unfolding twins
+array-is twin k ks h = refl
+array-is blank k ks h = refl
+array-is long k ks h = refl
+array-is low k ks h = refl
+array-is wide k ks h = and-false (same k Float64)
+array-is notText k ks h = refl
+array-is notUniform k ks h = rw h
+
+-- a name's tests
+abbrev pub nameFlawed : Flaw → List ℕ → Bool
+nameFlawed f n = (is f notText && not (isText n)) || (is f blank && isEmpty n)
+
+pub object-is : (f : Flaw) (k : Kind) (xs : List (Named Kind)) → same k Array ≡ false
+    → flawedPart f k (object xs) ≡ (any (λ x. nameFlawed f (x .0)) xs || (is f notUniform && (same k Object && isUniform (map (λ x. x .1) xs))) ||
+    (is f twin && twins (namesIn xs)))
+object-is twin k xs h = rw (any-none (λ (x : Named Kind). false) (λ x. refl) xs)
+object-is blank k xs h =
+    rw (or-false (any (λ (x : Named Kind). isEmpty (x .0)) xs), or-false (any (λ (x : Named Kind). isEmpty (x .0)) xs))
+    (sym (any-map (λ x. isEmpty (x .0)) isEmpty (λ x. x .0) (λ x. refl) xs))
+object-is long k xs h = rw (any-none (λ (x : Named Kind). false) (λ x. refl) xs)
+object-is low k xs h = rw (any-none (λ (x : Named Kind). false) (λ x. refl) xs)
+object-is wide k xs h = rw (any-none (λ (x : Named Kind). false) (λ x. refl) xs, and-false (same k Float64))
+object-is notText k xs h =
+    let e : any (λ (x : Named Kind). nameFlawed notText (x .0)) xs ≡ any (λ t. not (isText t)) (namesIn xs) = any-map (λ x. nameFlawed notText (x .0))
+    (λ t. not (isText t)) (λ x. x .0) (λ x. or-false (not (isText (x .0)))) xs in
+    rw (e, or-false (any (λ t. not (isText t)) (namesIn xs)), or-false (any (λ t. not (isText t)) (namesIn xs)))
+object-is notUniform k xs h = rw (any-none (λ (x : Named Kind). false) (λ x. refl) xs, h)

@@ -1,0 +1,4 @@
+pub mod Flawed
+pub mod Spells
+pub mod FlawTable
+pub mod Halts
