@@ -22,23 +22,20 @@ use Rattle.format.specs.Payload.{front, head}
 use Rattle.format.specs.Reader.{contents, readNode, read}
 use Rattle.format.specs.Places.{step, lookAt, lookFrom}
 use Rattle.format.specs.Stepping.{Event, eventsAt, stepsFrom}
+use Rattle.format.specs.Siblings.{placesAt, placesFrom, placesIn}
 use Rattle.format.proofs.Back.{never}
 use Rattle.format.proofs.Local.{bind-got, whole-got}
 use Rattle.format.proofs.HeadParts.{Full}
-use Rattle.format.proofs.FieldBytes.{field-takes}
-use Rattle.format.specs.Siblings.{placesAt, placesFrom, placesIn}
+use Rattle.format.proofs.FieldBytes.{Takes, field-takes}
 use Rattle.format.proofs.PassedPlaces.{behind, step-onward}
 
 -- ---- fields that fill a part: a reader that uses up a byte at least where it reads
-
-abbrev pub TakesSome : {A : Type 0} → (List ℕ → Out A) → Type 0
-TakesSome {A} p = (s : List ℕ) (a : A) (fs : List Flaw) (r : List ℕ) → p s ≡ got a fs r → length r < length s
 
 bind-same : {A B : Type 0} (o : Out A) (f g : A → List ℕ → Out B) → ((a : A) (fs : List Flaw) (r : List ℕ) → o ≡ got a fs r → f a r ≡ g a r) → bind o f ≡ bind o g
 bind-same (fault k) f g e = refl
 bind-same (got a fs r) f g e = ap (withFlaws fs) (e a fs r refl)
 
-fill-more : {A : Type 0} (p : List ℕ → Out A) → TakesSome p → (m n : ℕ) (s : List ℕ) → length s ≤ m → length s ≤ n → fill p n s ≡ fill p m s
+fill-more : {A : Type 0} (p : List ℕ → Out A) → Takes p → (m n : ℕ) (s : List ℕ) → length s ≤ m → length s ≤ n → fill p n s ≡ fill p m s
 fill-more p t zero zero s h k = refl
 fill-more p t zero (suc n) [] h k = refl
 fill-more p t zero (suc n) (b ∷ s) h k = absurd (omega arith)
@@ -49,10 +46,10 @@ fill-more p t (suc m) (suc n) (b ∷ s) h k = bind-same (p (b ∷ s)) _ _ λ x f
     let l = t (b ∷ s) x fs r e in
     ap (λ o. bind o λ xs q. got (x ∷ xs) [] q) (fill-more p t m n r (omega arith) (omega arith))
 
-pub fill-enough : {A : Type 0} (p : List ℕ → Out A) → TakesSome p → (n : ℕ) (s : List ℕ) → length s ≤ n → fill p n s ≡ fill p (length s) s
+pub fill-enough : {A : Type 0} (p : List ℕ → Out A) → Takes p → (n : ℕ) (s : List ℕ) → length s ≤ n → fill p n s ≡ fill p (length s) s
 fill-enough p t n s h = fill-more p t (length s) n s (omega arith) h
 
-read-takes : (d : ℕ) (f : Form) → Full f → TakesSome (read d f)
+read-takes : (d : ℕ) (f : Form) → Full f → Takes (read d f)
 unfolding read
 read-takes zero f full s x fs r h = never h
 read-takes (suc d) f full s x fs r h =

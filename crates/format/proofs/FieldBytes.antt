@@ -175,10 +175,11 @@ text-takes : (s : List ℕ) {b : List ℕ} {fs : List Flaw} {r : List ℕ} → r
 text-takes s {b} {fs} {r} h = bind-got (sized rest s) _ h λ a es q gs e k _. raise-got (not (isText a)) notText (got a [] q) k λ _ j.
     let z : q ≡ r = cc in omega (arith, sized-takes rest s e, ap length z)
 
--- a reader of leaves takes what the reader takes that it is made of
-abbrev Takes : {A : Type 0} → (List ℕ → Out A) → Type 0
+-- where it reads, it uses up a byte at least
+abbrev pub Takes : {A : Type 0} → (List ℕ → Out A) → Type 0
 Takes {A} p = (s : List ℕ) (a : A) (fs : List Flaw) (r : List ℕ) → p s ≡ got a fs r → length r < length s
 
+-- a reader of leaves takes what the reader takes that it is made of
 takes-make : {A B : Type 0} (f : A → B) (p : List ℕ → Out A) → Takes p → Takes (λ s. make f (p s))
 takes-make f p t s a fs r h = bind-got (p s) (λ a q. got (f a) [] q) h λ b es q gs e k _. let z : q ≡ r = cc in omega (arith, t s b es q e, ap length z)
 

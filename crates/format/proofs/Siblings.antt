@@ -22,13 +22,13 @@ use Rattle.format.specs.Mask.{mask, boundsOnly}
 use Rattle.format.specs.Places.{top, step}
 use Rattle.format.specs.Show.{Walk, ShownFields, ShownNode, Shown, unnamed}
 use Rattle.format.specs.Stepping.{nth, fieldsOf, Reached, onward, fieldAt, stepTo, placeAt, Agree}
+use Rattle.format.specs.Contents.{contentsStart}
+use Rattle.format.specs.Siblings.{placesFrom, placesIn, fieldIn, fieldCount, countIn, Inside}
 use Rattle.format.proofs.Lists.{all-of}
 use Rattle.format.proofs.Steps.{walk-few}
 use Rattle.format.proofs.WalkFacts.{walk-each, walk-ranges, walk-fills, walk-apart}
 use Rattle.format.proofs.Walk.{every-field-shown, every-field-reached}
 use Rattle.format.proofs.PassedPlaces.{check-passed, wrong-leaf}
-use Rattle.format.specs.Contents.{contentsStart}
-use Rattle.format.specs.Siblings.{placesFrom, placesIn, fieldIn, fieldCount, countIn, Inside}
 
 -- ---- a walk's places are those that steps meet
 

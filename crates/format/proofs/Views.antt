@@ -31,6 +31,7 @@ use Rattle.format.specs.Mask.{mask, boundsOnly}
 use Rattle.format.specs.Places.{check, checkedOf, checked, top, taken, sizeLength, partOf, part, viewOf, view}
 use Rattle.format.specs.Show.{Reads, Opens, ShownFields, ShownNode, Shown, unnamed}
 use Rattle.format.specs.Stepping.{placeAt}
+use Rattle.format.specs.Views.{Between, ContainerView, NodeView, FieldView, Seen}
 use Rattle.format.proofs.Lists.{append-nil}
 use Rattle.format.proofs.Back.{never}
 use Rattle.format.proofs.KindLaws.{known-rt}
@@ -38,7 +39,6 @@ use Rattle.format.proofs.Local.{raise-got}
 use Rattle.format.proofs.Parts.{part-is, part-right, part-slice, slice-join}
 use Rattle.format.proofs.ReadPlaces.{size-le}
 use Rattle.format.proofs.Steps.{walk-few}
-use Rattle.format.specs.Views.{Between, ContainerView, NodeView, FieldView, Seen}
 use Rattle.format.proofs.PassedPlaces.{check-passed, slice-part}
 use Rattle.format.proofs.Siblings.{reached}
 

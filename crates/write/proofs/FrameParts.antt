@@ -1,5 +1,4 @@
--- Frames, one by one: a frame that was read stands at the front of the list, and reads the same whatever stands behind it; and a refusal carries an end of the
--- list at which a frame begins, and the list cut there is refused because it ends.
+-- The parts of a frame, its name and its payload: what was read of them reads the same whatever stands behind it; and what a refusal in them carries.
 use Prim.Native.Nat.{ℕ, _≤_}
 use native.Mathlib.Omega.{arith}
 use mathlib.Core.Path.{_≡_, refl, sym, ap, _∙_, subst}
@@ -102,7 +101,7 @@ leaf-found f v fs r {u} {q} h = go (has long fs || has low fs) (has notText fs) 
     go false true h = never h
     go false false h = let z : v ≡ u = cc in (cc, λ f′ q′. rw z)
 
-leaf-refused : (f : List ℕ) (o : Out Leaf) (n : Refusal) (r : List ℕ) → leafFound f o ≡ refused n r → OfFrame n × (f ≡ r)
+pub leaf-refused : (f : List ℕ) (o : Out Leaf) (n : Refusal) (r : List ℕ) → leafFound f o ≡ refused n r → OfFrame n × (f ≡ r)
 leaf-refused f o n r h = go o h
   where
     all : (v : Leaf) (u : List ℕ) (a b : Bool) → cond a (refused BadFrame f) (cond b (refused NotText f) (framed v u)) ≡ refused n r → OfFrame n × (f ≡ r)

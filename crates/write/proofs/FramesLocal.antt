@@ -1,5 +1,5 @@
--- Frames are read one by one. What was read stands at the front, and reads the same whatever stands behind it; a refusal carries an end of the list at which a
--- frame begins, and the list cut there is refused because it ends (document 01, "The write list"); and the bound on the frames in a container is large enough.
+-- Frames up to a close, of a reader of frames: what was read stands at the front of the list, and reads the same whatever stands behind it; and a refusal
+-- carries an end of the list at which a frame begins, and the list cut there is refused because it ends.
 use Prim.Native.Nat.{ℕ, zero, suc, _≤_}
 use native.Mathlib.Omega.{arith}
 use mathlib.Core.Path.{_≡_, refl, sym, ap, _∙_}

@@ -26,4 +26,6 @@ mod FramesLocal
 mod FrameParts
 pub mod Refusals
 pub mod RefusedPlaces
+mod OpenLists
+pub mod FirstFaulty
 pub mod WrittenAs

@@ -1,4 +1,5 @@
--- The place of a refusal: where the list ends, or where its first faulty frame begins (document 01, "The write list").
+-- Frames at every depth: what was read reads the same whatever stands behind it; a refusal is because the list ends, or at the first byte of a frame; and the
+-- bound on the frames in a container is large enough.
 use Prim.Native.Nat.{ℕ, zero, suc, _+_, _≤_}
 use native.Mathlib.Omega.{arith}
 use mathlib.Core.Path.{_≡_, refl, sym, ap, _∙_}
@@ -22,7 +23,7 @@ use Rattle.write.proofs.FrameParts.{carried, name-got, name-refused, pa
 
 -- ---- a frame
 
-kind-got : (f : List ℕ) (o : Known) (s : List ℕ) {k : Kind} {r : List ℕ} → frameKind f o s ≡ framed k r → (s ≡ r) × ((f′ q : List ℕ) → frameKind f′ o q ≡ framed k q)
+pub kind-got : (f : List ℕ) (o : Known) (s : List ℕ) {k : Kind} {r : List ℕ} → frameKind f o s ≡ framed k r → (s ≡ r) × ((f′ q : List ℕ) → frameKind f′ o q ≡ framed k q)
 kind-got f Unknown s h = never h
 kind-got f (Is j) s {k} {r} h = go (isWritable (payload j)) h
   where
@@ -30,7 +31,7 @@ kind-got f (Is j) s {k} {r} h = go (isWritable (payload j)) h
     go true h = let z : j ≡ k = cc in (cc, λ f′ q. rw z)
     go false h = never h
 
-kind-refused : (f : List ℕ) (o : Known) (s : List ℕ) (n : Refusal) (r : List ℕ) → frameKind f o s ≡ refused n r → OfFrame n × (f ≡ r)
+pub kind-refused : (f : List ℕ) (o : Known) (s : List ℕ) (n : Refusal) (r : List ℕ) → frameKind f o s ≡ refused n r → OfFrame n × (f ≡ r)
 kind-refused f Unknown s n r h = carried BadFrame tt h
 kind-refused f (Is j) s n r h = go (isWritable (payload j)) h
   where
@@ -110,6 +111,7 @@ until-more {A} p loc (suc m) (suc n) used (b ∷ s) h k = ap (λ o. cond (eqb b 
         let l : suc (length s) ≡ length (w .0) + length r = ap length (w .1) ∙ length-append (w .0) r in
         ap (λ o. next o λ xs q. framed (x ∷ xs) q) (ih (x .0 ∷ used) r (omega (arith, w .2)) (omega (arith, w .2)))
 
+-- with the names before a frame in an object, and with none in an array
 pub frames-enough : (d : ℕ) (names : List (List ℕ) → Option (List (List ℕ))) (n : ℕ) (used : List (List ℕ)) (s : List ℕ) → length s ≤ n
     → untilClose (λ u. readFrames d (names u)) n used s ≡ untilClose (λ u. readFrames d (names u)) (length s) used s
 frames-enough d names n used s h = until-more (λ u. readFrames d (names u)) (λ u. frames-local d (names u)) (length s) n used s (omega arith) h
