@@ -1,67 +1,166 @@
--- What the owner demands, sentence by sentence, each as a theorem about the definitions of document 01. The proofs are citations: what stands behind them
--- is in crates/format/proofs, crates/read/proofs and crates/write/proofs. What the public calls have to do with it, their contracts say: each is one equation with a definition named here.
-use Prim.Native.Nat.{ℕ, suc, _+_, _≤_, _<_}
+-- What the owner demands, sentence by sentence, each as a theorem about the definitions of document 01. The proofs are citations: what stands behind them is in the
+-- proofs/ of format, spelling, read, write, float and program. What the public calls have to do with it, their contracts say: each is one equation with a definition named here.
+use Prim.Native.Nat.{ℕ, suc, _+_, _%_, _^_, _≤_, _<_}
 use mathlib.Core.Path.{_≡_}
-use mathlib.Core.Logic.{_↔_, _⊎_}
-use mathlib.Core.Option.{some}
-use mathlib.Core.List.{List, [], _++_, map}
-use lib.ListN.{length}
+use mathlib.Core.Bool.{true, false}
+use mathlib.Core.Logic.{_↔_}
+use mathlib.Core.Option.{Option, some}
+use mathlib.Core.List.{List, [], _++_}
+use lib.ListN.{length, drop}
 use lib.Seq.{slice}
+use lib.Ieee.{binary32, binary64, ofBits}
 use Rattle.number.specs.BigEndian.{All, Bytes}
+use Rattle.float.specs.Width.{isNan32, isNan64, widen}
 use Rattle.format.specs.declared.Kind.{Kind}
+use Rattle.format.specs.declared.Form.the-variants as Fo
 use Rattle.format.specs.declared.Stop.{Stop}
+use Rattle.format.specs.declared.Stop.the-variants.{TooLong}
 use Rattle.format.specs.declared.Place.{Place}
 use Rattle.format.specs.declared.After.{After}
+use Rattle.format.specs.declared.After.the-variants.{Start}
+use Rattle.format.specs.declared.Checked.the-variants as C
+use Rattle.format.specs.declared.Part.the-variants as P
 use Rattle.format.specs.declared.Step.the-variants as S
 use Rattle.format.specs.declared.Found.the-variants as F
+use Rattle.format.specs.declared.Top.the-variants as T
 use Rattle.format.specs.declared.Refusal.{Refusal}
+use Rattle.format.specs.declared.Refusal.the-variants.{ListEnds}
 use Rattle.format.specs.declared.Written.the-variants.{Done, Refused}
 use Rattle.format.specs.Limits.{depthLimit, lengthLimit}
-use Rattle.format.specs.Parse.{Flaw}
+use Rattle.format.specs.Parse.{Flaw, long, fill}
 use Rattle.format.specs.Tree.{Tree, object}
-use Rattle.format.specs.Encoding.{concat, encoding, sizesOf, WithinLimits}
-use Rattle.format.specs.Reader.{Standing, Named, Layout, tree, treeOf}
-use Rattle.format.specs.Mask.{stopValue, flaws, sumOf, paddingOf, mask, boundsOnly, strict}
-use Rattle.format.specs.Places.{lookup}
-use Rattle.format.specs.Writer.{zeros, written}
-use Rattle.format.specs.Places as places
-use Rattle.format.specs.Show.{ShownFields, Shown, ShownPayload}
-use Rattle.format.specs.Stepping.{fieldAt, placeAt, Agree, stepping, events, ranges, payloadRange, Apart, IsFirst}
+use Rattle.format.specs.Encoding.{encoding, sizesOf, WithinLimits}
+use Rattle.format.specs.Reader.{Standing, Named, Layout, read, treeOf}
+use Rattle.format.specs.Mask.{stopValue, flaws, has, sumOf, paddingOf, mask, boundsOnly, strict}
+use Rattle.format.specs.Places.{checked, top, step, nameView, part, view, lookup, lookFrom}
+use Rattle.format.specs.WriteList.{framed, readList, readFrames, untilClose}
+use Rattle.format.specs.Writer.{refusalNumber, zeros, written}
+use Rattle.format.specs.Program.{program}
+use Rattle.format.specs.Show.{Shown, ShownPayload}
+use Rattle.format.specs.Stepping.{fieldAt, placeAt, Agree, Event, stepsFrom, stepping, events, IsFirst}
+use Rattle.format.specs.Siblings.{Inside}
+use Rattle.format.specs.Views.{Seen}
 use Rattle.format.proofs.Spelling as spelling
 use Rattle.format.proofs.Walk as walk
+use Rattle.format.proofs.Siblings as siblings
+use Rattle.format.proofs.Views as views
+use Rattle.format.proofs.Bounds as bounds
+use Rattle.float.proofs.Numbers as numbers
+use Rattle.spelling.specs.Flawed.{sumWhere}
+use Rattle.spelling.specs.FlawTable.{HasFlaw, FlawsTold}
+use Rattle.spelling.specs.Spells.{anyForm, minimalForm, Spells}
+use Rattle.spelling.specs.Halts.{Halts}
+use Rattle.spelling.specs.MaskSaid.{MaskSaid}
+use Rattle.spelling.proofs.SpelledOut as spelled
+use Rattle.hexadecimal.specs.Typing.{start}
+use Rattle.program.specs.Answer.{answered}
+use Rattle.program.specs.Input.{fedParts, joined}
+use Rattle.program.proofs.InParts as programs
 use Rattle.read.proofs.AnyStep.{Stepped}
+use Rattle.read.proofs.AnyStep as steps
 use Rattle.write.specs.Describe.{listOf}
+use Rattle.write.specs.Refused.{Placed}
 use Rattle.write.proofs.Answers.{Wrote}
 use Rattle.write.proofs.Answers as answers
 use Rattle.write.proofs.Writable.{success}
 use Rattle.write.proofs.Writable as writable
-use Rattle.read.proofs.AnyStep as steps
+use Rattle.write.proofs.WrittenAs.{WrittenAs}
+use Rattle.write.proofs.WrittenAs as writtenAs
+use Rattle.write.proofs.RefusedPlaces as refusals
+use Rattle.write.proofs.FirstFaulty as faulty
+use Rattle.write.proofs.Refusals as frames
 
 -- ---- 1. "Whatever bytes, modes, place or write list arrive, every public call ends, reads only what it was lent, and refuses what is bad by itself."
--- That a call ends, stays inside its slices and has this answer for every input is what the prover shows of a function that has no `requires`:
---   validate::validate    r ≡ mask modes payload                  crates/validate/src/lib.rt
---   Place::top            r ≡ top payload                         crates/format/src/lib.rt
---   read::checked         r ≡ checked payload place               crates/read/src/lib.rt
---   read::step            r ≡ step payload container last
---   read::name_view       now r ≡ nameView payload container last
---   read::part, view      r ≡ part payload place, now r ≡ view payload place
---   read::lookup          r ≡ lookup payload object name
---   read::double, signed, unsigned, ticks                         r ≡ double payload place, ...
---   write::write          answer, output, work ≡ written list output work          crates/write/src/lib.rt
--- "A refused read writes nothing": none of the reading calls is lent anything to write to. The calls for C write their answer's numbers only
--- (crates/cabi/specs/Reply.antt, `told`).
+-- That a call ends, stays inside its slices and has this answer for every input is what the prover shows of a function that has no `requires`. tests/contracts, a part of the
+-- gate, lists every public call with its contract, and fails on a `requires`, on a missing `ensures`, and on a call that is not named here:
+--   validate::validate                                  r ≡ mask modes payload                                        crates/validate/src/lib.rt
+--   Place::top                                          r ≡ top payload                                               crates/format/src/lib.rt
+--   read::checked, step, part, lookup                   r ≡ checked payload place, ...                                crates/read/src/lib.rt
+--   read::view, name_view                               now r ≡ view payload place, nameView payload container last
+--   read::double, signed, unsigned, ticks               r ≡ double payload place, ...
+--   write::write                                        answer, output, work ≡ written list output work               crates/write/src/lib.rt
+--   program::whole                                      text ≡ program input ++ what stood behind it                  crates/program/src/lib.rt
+--   program::answer                                     text, output, work ≡ answered typing list text output work
+-- The calls for C answer the same in numbers (crates/cabi/src/lib.rt; the numbers are in its specs/), and what is lent for an answer holds that answer or what it held:
+--   ajuqvane_validate, ajuqvane_check, ajuqvane_top, ajuqvane_step, ajuqvane_view, ajuqvane_lookup, ajuqvane_double, ajuqvane_signed, ajuqvane_unsigned, ajuqvane_ticks,
+--   ajuqvane_write, ajuqvane_varuint, ajuqvane_is_text, ajuqvane_are_equal, ajuqvane_float32_holds, ajuqvane_widen
+-- The leaves, and what the calls above share:
+--   number::read, length, put, read32, read64, minus_plus_one, ticks; text::is_text, are_equal; float::float32_holds, is_nan32, is_nan64, widen, narrow, of_integer;
+--   format::known_of, kind_at, id_of, fixed_size, is_bare, no_faults, with_uniform, with_twin, is_blank, is_long, is_low, is_wide, is_not_text, sum_of, front_of, name_of,
+--   meet_of, head_of; hexadecimal::character_of, nothing, feed; validate::stop_value; write::refusal_number, clear
+-- ajuqvane_write_list is the program: it reads, calls `hexadecimal::feed` and `program::answer`, and writes; no contract can say what is read or written.
+-- "A refused read writes nothing": none of the reading calls is lent anything to write to. The calls for C write their answer's numbers only (`told`, crates/cabi/specs/Reply.antt).
 
 -- 1. "a refused write gives its number and place, leaves the output untouched and zeroes the work numbers."
 pub refused-leaves : (list output work : List ℕ) (r : Refusal) (p : ℕ) → written list output work .answer ≡ Refused r p
     → (written list output work .output ≡ output) × (written list output work .work ≡ zeros (length work))
 refused-leaves = answers.refused-leaves
 
+-- 1. its place: the list's length for 1; 0 for 9, 10 and 11; otherwise the first byte of a frame, and no frame before it is faulty
+pub refusal-placed : (list output work : List ℕ) (r : Refusal) (p : ℕ) → written list output work .answer ≡ Refused r p → Placed r p list output work
+refusal-placed = refusals.refusal-placed
+
+-- 1. and it is the first faulty frame: where frames are not faulty so far, none of them is refused, whatever follows
+pub refused-no-earlier : (output work list more : List ℕ) → written list output work .answer ≡ Refused ListEnds (length list)
+    → (r : Refusal) (p : ℕ) → written (list ++ more) output work .answer ≡ Refused r p → refusalNumber r ≤ 8 → length list ≤ p
+refused-no-earlier = faulty.refused-no-earlier
+
 -- ---- 2. "For every input and mode set the mask is the one that document 01 derives."
--- The contract of `validate` is the definition `mask`, of which these hold: one stopping fault, whatever is asked; or each flaw met once, where its mode is asked
-pub mask-is : (payload : List ℕ)
-    → ((k : Stop) × ((modes : ℕ) → mask modes payload ≡ stopValue k))
-    ⊎ ((met : List Flaw) × (left : List ℕ) × ((modes : ℕ) → mask modes payload ≡ sumOf modes met flaws + paddingOf modes left))
-mask-is = spelling.mask-is
+-- The contract of `validate` is the definition `mask`. `MaskSaid` is what 01 says of it, told of the payload without the reader: it halts with one stopping fault (Halts.antt: a
+-- spelled beginning, and then what breaks), which is the whole mask; or it begins with a spelling of a layout (Spells.antt), and the mask is the sum of what 01's table
+-- (FlawTable.antt) says of it, each once where its mode is asked, and of what is left. It holds of the mask, and of no other answer
+pub mask-told : (payload : List ℕ) → Bytes payload → MaskSaid payload (λ modes. mask modes payload)
+mask-told = spelled.mask-told
+
+pub mask-only : (payload : List ℕ) → Bytes payload → (answer : ℕ → ℕ) → MaskSaid payload answer → (modes : ℕ) → answer modes ≡ mask modes payload
+mask-only = spelled.mask-only
+
+-- 2. the mask is a stopping fault's exactly if the payload halts with it; 8 exactly if it is too long; no payload halts with two, nor halts and begins with a spelling
+pub stops-exactly : (payload : List ℕ) → Bytes payload → (k : Stop) (modes : ℕ) → (mask modes payload ≡ stopValue k) ↔ Halts k payload
+stops-exactly = spelled.stops-exactly
+
+pub too-long-exactly : (payload : List ℕ) → Bytes payload → (modes : ℕ) → (mask modes payload ≡ stopValue TooLong) ↔ (lengthLimit < length payload)
+too-long-exactly = spelled.too-long-exactly
+
+pub one-stop : (payload : List ℕ) (k l : Stop) → Halts k payload → Halts l payload → k ≡ l
+one-stop = spelled.one-stop
+
+pub halts-not-spells : (payload : List ℕ) (k : Stop) (x : Named (Standing (Layout depthLimit))) (w left : List ℕ)
+    → Halts k payload → length payload ≤ lengthLimit → payload ≡ w ++ left → Spells anyForm depthLimit Fo.Top x w → ⊥
+halts-not-spells = spelled.halts-not-spells
+
+-- 2. the bounds check passes exactly the spellings of layouts of at most 32 levels, with any form of each VarUInt and something after them, within the length limit; of one layout
+pub bounds-exactly-spellings : (payload : List ℕ) → Bytes payload
+    → (mask boundsOnly payload ≡ 0) ↔ ((length payload ≤ lengthLimit) × (x : Named (Standing (Layout depthLimit))) × (w left : List ℕ) × (payload ≡ w ++ left)
+    × Spells anyForm depthLimit Fo.Top x w)
+bounds-exactly-spellings = spelled.bounds-exactly-spellings
+
+pub one-layout : (d : ℕ) (x y : Named (Standing (Layout d))) (w u left rest : List ℕ)
+    → Spells anyForm d Fo.Top x w → Spells anyForm d Fo.Top y u → w ++ left ≡ u ++ rest → (x ≡ y) × (left ≡ rest)
+one-layout = spelled.one-layout
+
+pub mask-of-spelling : (x : Named (Standing (Layout depthLimit))) (w left : List ℕ) → Bytes (w ++ left) → length (w ++ left) ≤ lengthLimit
+    → Spells anyForm depthLimit Fo.Top x w → (t : FlawsTold x w) × ((modes : ℕ) → mask modes (w ++ left) ≡ sumWhere modes (t .so) flaws + paddingOf modes left)
+mask-of-spelling = spelled.mask-of-spelling
+
+-- 2. of what the calls show of a payload that passes the bounds check: the mask is the sum over the flaws met and what is left; each flaw but 64 was met exactly if a field of the
+-- layout has what 01's table says, and 64 was not met exactly if every VarUInt is in its minimal form
+pub mask-of-shown : (payload : List ℕ) (shown : ShownPayload payload) (modes : ℕ) → mask modes payload ≡ sumOf modes (shown .flaws) flaws + paddingOf modes (shown .left)
+mask-of-shown = spelled.mask-of-shown
+
+pub met-exactly : (payload : List ℕ) (shown : ShownPayload payload) (f : Flaw) → (f ≡ long → ⊥) → (has f (shown .flaws) ≡ true) ↔ HasFlaw f depthLimit (shown .kind, shown .layout)
+met-exactly = spelled.met-exactly
+
+pub long-exactly : (payload : List ℕ) → Bytes payload → (shown : ShownPayload payload)
+    → (has long (shown .flaws) ≡ false) ↔ ((w : List ℕ) × (payload ≡ w ++ shown .left) × Spells minimalForm depthLimit Fo.Top ([], (shown .kind, shown .layout)) w)
+long-exactly = spelled.long-exactly
+
+-- 2. a stopping fault is the whole mask, whatever is asked; bits that are no mode's are ignored
+pub stop-is-whole : (payload : List ℕ) → (mask boundsOnly payload ≡ 0 → ⊥) → (modes : ℕ) → mask modes payload ≡ mask boundsOnly payload
+stop-is-whole = spelling.stop-is-whole
+
+pub other-bits : (modes : ℕ) (payload : List ℕ) → mask modes payload ≡ mask (modes % 8) payload
+other-bits = spelling.other-bits
 
 -- 2. "Every field reached from the top of a payload that passes the bounds check shows the kind, name and value that the layout gives it."
 pub every-field-shown : (payload : List ℕ) → mask boundsOnly payload ≡ 0 → ShownPayload payload
@@ -72,13 +171,40 @@ pub every-field-reached : (payload : List ℕ) (shown : ShownPayload payload) (p
     → Agree payload (fieldAt path depthLimit ([], (shown .kind, shown .layout))) (placeAt path payload ([], shown .place))
 every-field-reached = walk.every-field-reached
 
+-- 2. its view is a part of the payload, from behind its size to the field's end: a leaf's value, a container's count and shared byte and contents. The name that a step meets is a
+-- part of it too. A refused view is empty
+pub every-view : (payload : List ℕ) → mask boundsOnly payload ≡ 0 → (t : Place) → top payload ≡ T.At t
+    → (path name : List ℕ) (c : Place) → placeAt path payload ([], t) ≡ some (name, c) → Seen path payload c
+every-view = views.every-view
+
+pub refused-view : (payload : List ℕ) (place : Place) (fault : Stop) → checked payload place ≡ C.Fault fault → (part payload place ≡ P.Fault fault) × (view payload place ≡ [])
+refused-view = views.refused-view
+
+pub name-viewed : (payload : List ℕ) (c : Place) (last : After) (q : Place) (a : ℕ) → step payload c last ≡ S.Field q a → nameView payload c last ≡ slice a (q .start) payload
+name-viewed = views.name-viewed
+
+pub refused-name-view : (payload : List ℕ) (c : Place) (last : After) → ((q : Place) (a : ℕ) → step payload c last ≡ S.Field q a → ⊥) → nameView payload c last ≡ []
+refused-name-view = views.refused-name-view
+
+-- 2. floats by exact value with the sign of zero kept: widening keeps the number, and patterns that are no NaN stand for different numbers, the two zeros too
+pub widening-keeps : (b : ℕ) → b < 2 ^ 32 → isNan32 b ≡ false → ofBits binary64 (widen b) ≡ ofBits binary32 b
+widening-keeps = numbers.widening-keeps
+
+pub numbers-apart : (a b : ℕ) → a < 2 ^ 64 → b < 2 ^ 64 → isNan64 a ≡ false → isNan64 b ≡ false → ofBits binary64 a ≡ ofBits binary64 b → a ≡ b
+numbers-apart = numbers.numbers-apart
+
 -- 2. "From every write list that is not refused the writer makes the encoding of the described tree, and strict validation passes it."
 -- `Wrote` says: the tree that the list describes, that it is within the limits, that the output begins with its encoding and is untouched behind it, that the work
 -- numbers are the containers' sizes in order of opening and zero behind them, and that the encoding has strict mask 0 and is read as that tree
 pub written-is-encoding : (list output work : List ℕ) (n : ℕ) → Bytes list → written list output work .answer ≡ Done n → Wrote list output work n (written list output work)
 written-is-encoding = answers.written-is-encoding
 
--- 2. every tree within the limits is described by a list, `listOf`, which is written where it is no longer than a list may be and there is room
+-- 2. a list that describes a tree is written, where it is no longer than a list may be, the encoding no longer than a payload may be, and there is room
+pub described-written : (list : List ℕ) (t : Tree depthLimit) → readList depthLimit list ≡ framed t [] → length list ≤ lengthLimit → length (encoding depthLimit t) ≤ lengthLimit
+    → (output work : List ℕ) → length (encoding depthLimit t) ≤ length output → length (sizesOf depthLimit t) ≤ length work → WrittenAs t output work (written list output work)
+described-written = writtenAs.described-list-written
+
+-- 2. every tree within the limits is described by a list, `listOf`, and so written with the same provisos
 pub tree-written : (t : Tree depthLimit) → WithinLimits t → length (listOf depthLimit t) ≤ lengthLimit
     → (output work : List ℕ) → length (encoding depthLimit t) ≤ length output → length (sizesOf depthLimit t) ≤ length work
     → written (listOf depthLimit t) output work ≡ success t output work
@@ -87,6 +213,11 @@ tree-written = writable.tree-written
 -- 2. and distinct trees give distinct outputs, whatever stands behind them
 pub outputs-apart : (t u : Tree depthLimit) → WithinLimits t → WithinLimits u → (a b : List ℕ) → encoding depthLimit t ++ a ≡ encoding depthLimit u ++ b → t ≡ u
 outputs-apart = writable.outputs-apart
+
+-- 2. the program: what `answer` puts into the text, after input in any parts, is what `program` prints of the whole input, and nothing behind it is touched
+pub what-is-printed : (parts : List (List ℕ)) (list text output work : List ℕ) → length (joined parts) < 2 ^ 64 → length list ≡ 65537
+    → answered (fedParts parts start list .typing) (fedParts parts start list .list) text output work .text ≡ program (joined parts) ++ drop (length (program (joined parts))) text
+what-is-printed = programs.what-is-printed
 
 -- ---- 3. "Strict passes a payload exactly if it is the encoding of some tree within the limits;"
 pub strict-exactly-encodings : (payload : List ℕ) → Bytes payload → (mask strict payload ≡ 0) ↔ ((t : Tree depthLimit) × WithinLimits t × (payload ≡ encoding depthLimit t))
@@ -105,26 +236,15 @@ pub walk-meets-each-once : (payload : List ℕ) → mask boundsOnly payload ≡ 
     → (i : ShownPayload payload) × (stepping depthLimit payload (i .place) ≡ events depthLimit 2 (i .kind, i .layout))
 walk-meets-each-once payload h = let i = walk.every-field-shown payload h in (i, walk.walk-meets-each-once payload i)
 
--- 3. of every container that is shown, at c, with the fields xs
-module _ {A : Type 0} (Shows : Place → Standing A → Type 0) (payload : List ℕ) (k : Kind) (c : Place) (xs : List (Named (Standing A))) (f : ShownFields Shows payload k c xs) where
-  pub one-place-each : length (f .places) ≡ length xs
-  one-place-each = walk.one-place-each Shows payload k c xs f
-
-  -- 3. "wholly inside its container,"
-  pub fields-inside : All (λ r. (f .contents ≤ r .0) × (r .0 < r .1) × (r .1 ≤ c .end)) (ranges (f .contents) (f .places))
-  fields-inside = walk.fields-inside Shows payload k c xs f
-
-  -- 3. "no two siblings overlapping", neither with all that stands before their payloads, nor as the places say
-  pub siblings-apart : Apart (ranges (f .contents) (f .places)) × Apart (map payloadRange (f .places))
-  siblings-apart = walk.siblings-apart Shows payload k c xs f
-
-  -- and nothing between them is left out
-  pub nothing-left-out : concat (λ r. slice (r .0) (r .1) payload) (ranges (f .contents) (f .places)) ≡ slice (f .contents) (c .end) payload
-  nothing-left-out = walk.nothing-left-out Shows payload k c xs f
+-- 3. "wholly inside its container, no two siblings overlapping.", at every place that steps reach: `Inside` says that steps there meet one place for each field, that each field
+-- lies in the contents and its payload in the container, that no two overlap, neither whole nor as their places say, and that nothing between them is left out
+pub stepping-inside : (payload : List ℕ) → mask boundsOnly payload ≡ 0 → (t : Place) → top payload ≡ T.At t
+    → (path name : List ℕ) (c : Place) → placeAt path payload ([], t) ≡ some (name, c) → Inside path payload c
+stepping-inside = siblings.stepping-inside
 
 -- ---- and of any payload, at fault or not, and any place, forged or not: a field that a step gives lies in its container, behind the last one, one deeper, and
 -- its place passes the check
-pub any-step : (payload : List ℕ) (c : Place) (last : After) (q : Place) (name : ℕ) → places.step payload c last ≡ S.Field q name → Stepped payload c last q name
+pub any-step : (payload : List ℕ) (c : Place) (last : After) (q : Place) (name : ℕ) → step payload c last ≡ S.Field q name → Stepped payload c last q name
 any-step = steps.any-step
 
 -- ---- lookup, of every object that is shown, and any name: it finds the first field of that name, and "not there" exactly if there is none
@@ -134,3 +254,20 @@ module _ (d : ℕ) (payload : List ℕ) (c : Place) (k : Kind) (xs : List (Named
 
   pub not-there-exactly : (lookup payload c name ≡ F.NotThere) ↔ All (λ x. x .0 ≡ name → ⊥) xs
   not-there-exactly = walk.not-there-exactly d payload c k xs i name
+
+-- ---- the numbers that bound a recursion in the definitions are large enough: more of them change nothing
+pub fields-enough : (d n : ℕ) (s : List ℕ) → length s ≤ n → fill (read d Fo.Field) n s ≡ fill (read d Fo.Field) (length s) s
+fields-enough = bounds.fields-enough
+
+pub shared-fields-enough : (d : ℕ) (k : Kind) (n : ℕ) (s : List ℕ) → length s ≤ n → fill (read d (Fo.SharedField k)) n s ≡ fill (read d (Fo.SharedField k)) (length s) s
+shared-fields-enough = bounds.shared-fields-enough
+
+pub look-enough : (payload : List ℕ) (c : Place) (name : List ℕ) (n : ℕ) → c .end < n → lookFrom n payload c name Start ≡ lookFrom (suc (c .end)) payload c name Start
+look-enough = bounds.look-enough
+
+pub steps-enough : (payload : List ℕ) (c : Place) (below : Place → List Event) (n : ℕ) → c .end < n → stepsFrom below n payload c Start ≡ stepsFrom below (suc (c .end)) payload c Start
+steps-enough = bounds.steps-from-enough
+
+pub frames-enough : (d : ℕ) (names : List (List ℕ) → Option (List (List ℕ))) (n : ℕ) (used : List (List ℕ)) (s : List ℕ) → length s ≤ n
+    → untilClose (λ u. readFrames d (names u)) n used s ≡ untilClose (λ u. readFrames d (names u)) (length s) used s
+frames-enough = frames.frames-enough

@@ -1,6 +1,7 @@
 pub mod Examples
 pub mod PinnedMasks
 pub mod PinnedWrites
+pub mod PinnedPlaces
 pub mod Lists
 pub mod Back
 pub mod KindLaws

@@ -23,7 +23,7 @@ use Rattle.format.specs.Places.{top, step}
 use Rattle.format.specs.Show.{Walk, ShownFields, ShownNode, Shown, unnamed}
 use Rattle.format.specs.Stepping.{nth, fieldsOf, Reached, onward, fieldAt, stepTo, placeAt, Agree}
 use Rattle.format.specs.Contents.{contentsStart}
-use Rattle.format.specs.Siblings.{placesFrom, placesIn, fieldIn, fieldCount, countIn, Inside}
+use Rattle.format.specs.Siblings.{placesFrom, placesIn, fieldIn, fieldCount, countIn, Inside, InTurn}
 use Rattle.format.proofs.Lists.{all-of}
 use Rattle.format.proofs.Steps.{walk-few}
 use Rattle.format.proofs.WalkFacts.{walk-each, walk-ranges, walk-fills, walk-apart}
@@ -57,6 +57,12 @@ module _ {A : Type 0} (P : Place → Standing A → Type 0) (s : List ℕ) (c : 
     all-of _ _ (λ r j. (omega (arith, j .0, w .0 .some-byte), j .1, j .2)) ps (walk-payloads (q .end) (Last q) ps xs (w .1)),
   )
 
+  walk-turn : (a : ℕ) (l : After) (ps : List Place) (xs : List (Named (Standing A))) → Walk P s c how a l ps xs → InTurn a ps
+  walk-turn a l [] [] w = tt
+  walk-turn a l [] (x ∷ xs) w = absurd w
+  walk-turn a l (q ∷ ps) [] w = absurd w
+  walk-turn a l (q ∷ ps) (x ∷ xs) w = (omega (arith, w .0 .begins, w .0 .then-name), w .0 .then-payload, walk-turn (q .end) (Last q) ps xs (w .1))
+
 -- ---- at a place
 
 module _ {A : Type 0} (P : Place → Standing A → Type 0) (path s : List ℕ) (k : Kind) (c : Place) (xs : List (Named (Standing A))) where
@@ -72,7 +78,8 @@ module _ {A : Type 0} (P : Place → Standing A → Type 0) (path s : List ℕ) 
         each-by-steps = λ i. rw ps (walk-nth P s c (payload k) i (f .contents) Start (f .places) xs (f .walk));
         contents-inside = rw e (f .inside, omega arith);
         fields-inside = rw (ps, e) (r .0);
-        payloads-inside = rw ps (all-of _ _ (λ q j. (omega (arith, j .0, f .inside), j .1, j .2)) (f .places) (walk-payloads P s c (payload k) (f .contents) Start (f .places) xs (f .walk)));
+        payloads-inside = rw (ps, e) (walk-payloads P s c (payload k) (f .contents) Start (f .places) xs (f .walk));
+        payloads-in-turn = rw (ps, e) (walk-turn P s c (payload k) (f .contents) Start (f .places) xs (f .walk));
         fields-apart = rw (ps, e) (r .1);
         payloads-apart = rw ps (walk-apart P s c (payload k) (f .contents) Start (f .places) xs (f .walk));
         nothing-left-out = rw (ps, e) (walk-fills P s c (payload k) (f .contents) Start (f .places) xs (f .walk));
@@ -90,6 +97,7 @@ leaf-laid path s c w n = wrong-leaf s c Start w λ v fs r e.
       contents-inside = rw st (check-passed s c e .order, omega arith);
       fields-inside = rw ps tt;
       payloads-inside = rw ps tt;
+      payloads-in-turn = rw ps tt;
       fields-apart = rw ps tt;
       payloads-apart = rw ps tt;
       nothing-left-out = rw (ps, st) (sym (slice-empty (c .end) s));

@@ -4,7 +4,7 @@ use Prim.Native.Nat.{ℕ, zero, suc, _+_, _-_, _≤_}
 use native.Mathlib.Omega.{arith}
 use mathlib.Core.Path.{_≡_, refl, sym, ap, _∙_, subst}
 use mathlib.Core.Logic.{_⊎_, inl, inr}
-use mathlib.Core.Bool.{true, not}
+use mathlib.Core.Bool.{true, not, cond}
 use mathlib.Core.Option.{some}
 use mathlib.Core.List.{List, [], _∷_, _++_, map, append-assoc}
 use lib.ListN.{length, take, drop, length-append, length-drop, take-append-drop}
@@ -18,7 +18,11 @@ use Rattle.format.specs.declared.Kind.the-variants.{Object, UniformObjec
 use Rattle.format.specs.declared.Mark.the-variants.{SharedByFields, SharedByItems}
 use Rattle.format.specs.declared.Stop.{Stop}
 use Rattle.format.specs.declared.Place.{Place}
+use Rattle.format.specs.declared.After.{After}
 use Rattle.format.specs.declared.After.the-variants.{Start}
+use Rattle.format.specs.declared.Step.{Step}
+use Rattle.format.specs.declared.Step.the-variants.{Field, NoMore, WrongKind}
+use Rattle.format.specs.declared.Step.the-variants as Stepped
 use Rattle.format.specs.declared.Checked.the-variants as C
 use Rattle.format.specs.declared.Part.the-variants as P
 use Rattle.format.specs.declared.Top.the-variants as T
@@ -28,7 +32,7 @@ use Rattle.format.specs.Tree.{Node, atom, array, object}
 use Rattle.format.specs.Payload.{Payload, leaf, fields, sharedFields, items, sharedItems, payload, Head}
 use Rattle.format.specs.Reader.{Standing, Named, Layout, kindsIn}
 use Rattle.format.specs.Mask.{mask, boundsOnly}
-use Rattle.format.specs.Places.{check, checkedOf, checked, top, taken, sizeLength, partOf, part, viewOf, view}
+use Rattle.format.specs.Places.{check, checkedOf, checked, top, step, nameIn, nameView, taken, sizeLength, partOf, part, viewOf, view}
 use Rattle.format.specs.Show.{Reads, Opens, ShownFields, ShownNode, Shown, unnamed}
 use Rattle.format.specs.Stepping.{placeAt}
 use Rattle.format.specs.Views.{Between, ContainerView, NodeView, FieldView, Seen}
@@ -53,9 +57,25 @@ refused-view s p k h = at (check s p) h
     at (fault j) h = let z : j ≡ k = cc in (ap P.Fault z, refl)
     at (got x fs r) h = absurd (let z : _≡_ {A = ℕ} 0 1 = cc in omega arith)
 
+-- the name that a step meets is a part of the payload, up to the field's start; any other answer of the step has an empty one
+pub name-viewed : (s : List ℕ) (c : Place) (last : After) (q : Place) (a : ℕ) → step s c last ≡ Field q a → nameView s c last ≡ slice a (q .start) s
+unfolding nameView
+name-viewed s c last q a h = rw h
+
+pub refused-name-view : (s : List ℕ) (c : Place) (last : After) → ((q : Place) (a : ℕ) → step s c last ≡ Field q a → ⊥) → nameView s c last ≡ []
+unfolding nameView
+refused-name-view s c last h = at (step s c last) refl
+  where
+    at : (o : Step) → step s c last ≡ o → nameIn s o ≡ []
+    at (Field q a) e = absurd (h q a e)
+    at NoMore e = refl
+    at WrongKind e = refl
+    at (Stepped.Fault k) e = refl
+
 -- the part of a place that passes
 pub record GoodView (s : List ℕ) (p : Place) : Type 0 where
   pub from : ℕ
+  pub begins : from ≡ p .start + sizeLength (known (p .kind)) (slice (p .start) (p .end) s)
   pub is-part : part s p ≡ P.At from (p .end)
   pub inside : (p .start ≤ from) × (from ≤ p .end) × (p .end ≤ length s)
   pub is-view : view s p ≡ slice from (p .end) s
@@ -72,6 +92,7 @@ good-view s p h = at (check s p) refl h
         let l : n ≤ length (slice (p .start) (p .end) s) = rw (i .is-known) (size-le (i .kind) (slice (p .start) (p .end) s)) in
         record {
           from = p .start + n;
+          begins = refl;
           is-part = rw e;
           inside = (omega arith, omega (arith, length-slice (p .start) (p .end) s (i .inside), i .order), i .inside);
           is-view = rw e;
@@ -159,12 +180,20 @@ node-viewed d s k c (object xs) e g i = good-check s c g λ h fs r j. fields-vie
 
 -- ---- along a path
 
-seen : (s : List ℕ) (c : Place) (d : ℕ) (x : Standing (Layout d)) → Shown d s c x → GoodView s c × FieldView d s c x
+-- behind the size, by the field's own kind
+begins-by : (s : List ℕ) (c : Place) (k : Kind) (a : ℕ) → c .kind ≡ id k → a ≡ c .start + sizeLength (known (c .kind)) (slice (c .start) (c .end) s)
+    → a ≡ c .start + cond (hasSize k) (taken (varUInt (slice (c .start) (c .end) s))) 0
+begins-by s c k a e h = h ∙ ap (λ o. c .start + sizeLength o (slice (c .start) (c .end) s)) (ap known e ∙ known-rt k)
+
+seen : (s : List ℕ) (c : Place) (d : ℕ) (x : Standing (Layout d)) → Shown d s c x
+    → (v : GoodView s c) × FieldView d s c x × (v .from ≡ c .start + cond (hasSize (x .0)) (taken (varUInt (slice (c .start) (c .end) s))) 0)
 seen s c zero x i = absurd i
-seen s c (suc d) x i = (good-view s c (i .no-fault), node-viewed d s (x .0) c (x .1) (i .kind) (i .no-fault) (i .node))
+seen s c (suc d) x i =
+    let v = good-view s c (i .no-fault) in
+    (v, node-viewed d s (x .0) c (x .1) (i .kind) (i .no-fault) (i .node), begins-by s c (x .0) (v .from) (i .kind) (v .begins))
 
 -- In any payload that the bounds check passes, at every place that steps from the top reach along a path
 pub every-view : (s : List ℕ) → mask boundsOnly s ≡ 0 → (t : Place) → top s ≡ T.At t → (path name : List ℕ) (c : Place) → placeAt path s ([], t) ≡ some (name, c) → Seen path s c
 every-view s h t e path name c p = reached s h t e path name c p λ x f n i.
     let v = seen s c (x .0) (x .1 .1) i in
-    record { from = v .0 .from; is-part = v .0 .is-part; inside = v .0 .inside; is-view = v .0 .is-view; field = x; is-field = f; shows = v .1 }
+    record { from = v .0 .from; is-part = v .0 .is-part; inside = v .0 .inside; is-view = v .0 .is-view; field = x; is-field = f; begins = v .2; shows = v .1 }

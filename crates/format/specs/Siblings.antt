@@ -52,6 +52,11 @@ fieldCount (suc d) x = length (fieldsOf (x .1))
 abbrev pub countIn : Reached → Option ℕ
 countIn x = some (fieldCount (x .0) (x .1 .1))
 
+-- each payload stands in its field's own range: it begins no earlier than the field before it ended, from a on
+abbrev pub InTurn : ℕ → List Place → Type 0
+InTurn a [] = Unit {0}
+InTurn a (q ∷ ps) = (a ≤ q .start) × (q .start ≤ q .end) × InTurn (q .end) ps
+
 -- the fields at the place c, which steps along the path have reached. A field's range is all of it: type byte, name length, name and payload, from where the
 -- field before it ended, or from the contents' start
 pub record Inside (path payload : List ℕ) (c : Place) : Type 0 where
@@ -59,7 +64,8 @@ pub record Inside (path payload : List ℕ) (c : Place) : Type 0 where
   pub each-by-steps : (i : ℕ) → nth i (placesIn payload c) ≡ onward (λ q. some (q .1)) (stepTo i payload c Start)
   pub contents-inside : (c .start ≤ contentsStart payload c) × (contentsStart payload c ≤ c .end)
   pub fields-inside : All (λ r. (contentsStart payload c ≤ r .0) × (r .0 < r .1) × (r .1 ≤ c .end)) (ranges (contentsStart payload c) (placesIn payload c))
-  pub payloads-inside : All (λ q. (c .start ≤ q .start) × (q .start ≤ q .end) × (q .end ≤ c .end)) (placesIn payload c)
+  pub payloads-inside : All (λ q. (contentsStart payload c ≤ q .start) × (q .start ≤ q .end) × (q .end ≤ c .end)) (placesIn payload c)
+  pub payloads-in-turn : InTurn (contentsStart payload c) (placesIn payload c)
   pub fields-apart : Apart (ranges (contentsStart payload c) (placesIn payload c))
   pub payloads-apart : Apart (map payloadRange (placesIn payload c))
   pub nothing-left-out : concat (λ r. slice (r .0) (r .1) payload) (ranges (contentsStart payload c) (placesIn payload c)) ≡ slice (contentsStart payload c) (c .end) payload

@@ -2,20 +2,22 @@
 use Prim.Native.Nat.{ℕ, zero, suc, _+_, _≤_}
 use mathlib.Core.Path.{_≡_}
 use mathlib.Core.Option.{some}
+use mathlib.Core.Bool.{cond}
 use mathlib.Core.List.{List, [], _∷_, _++_}
 use lib.ListN.{length}
 use lib.Seq.{slice}
 use Rattle.number.specs.BigEndian.{All}
+use Rattle.number.specs.VarUInt.{varUInt}
 use Rattle.format.specs.declared.Kind.{Kind}
 use Rattle.format.specs.declared.Mark.the-variants.{SharedByFields, SharedByItems}
 use Rattle.format.specs.declared.Place.{Place}
 use Rattle.format.specs.declared.Part.the-variants as P
-use Rattle.format.specs.Kinds.{typeByte}
+use Rattle.format.specs.Kinds.{typeByte, hasSize}
 use Rattle.format.specs.Parse.{readVarUInt}
 use Rattle.format.specs.Tree.{Node, atom, array, object}
 use Rattle.format.specs.Payload.{Payload, leaf, fields, sharedFields, items, sharedItems, payload}
 use Rattle.format.specs.Reader.{Standing, Layout, kindsIn}
-use Rattle.format.specs.Places.{part, view}
+use Rattle.format.specs.Places.{taken, part, view}
 use Rattle.format.specs.Show.{Reads, Viewed}
 use Rattle.format.specs.Stepping.{fieldsOf, Reached}
 use Rattle.format.specs.Contents.{contentsStart}
@@ -48,7 +50,8 @@ abbrev pub FieldView : (d : ℕ) → List ℕ → Place → Standing (Layout d) 
 FieldView zero s c x = ⊥
 FieldView (suc d) s c x = NodeView s (x .0) c (x .1)
 
--- the place c, which steps along the path have reached: its view is a part of the payload that ends where it ends, and shows the field that the reader has there
+-- the place c, which steps along the path have reached: its view is a part of the payload that begins behind the size, if its kind has one, and ends where it ends; and it shows the
+-- field that the reader has there
 pub record Seen (path payload : List ℕ) (c : Place) : Type 0 where
   pub from : ℕ
   pub is-part : part payload c ≡ P.At from (c .end)
@@ -56,4 +59,5 @@ pub record Seen (path payload : List ℕ) (c : Place) : Type 0 where
   pub is-view : view payload c ≡ slice from (c .end) payload
   pub field : Reached
   pub is-field : fieldIn path payload ≡ some field
+  pub begins : from ≡ c .start + cond (hasSize (field .1 .1 .0)) (taken (varUInt (slice (c .start) (c .end) payload))) 0
   pub shows : FieldView (field .0) payload c (field .1 .1)

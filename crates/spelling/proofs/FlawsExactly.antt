@@ -15,7 +15,7 @@ use Rattle.text.specs.Equal.{equal}
 use Rattle.text.proofs.Laws.{equal-refl, equal-is}
 use Rattle.float.specs.Rule.{holds}
 use Rattle.format.specs.declared.Kind.{Kind}
-use Rattle.format.specs.declared.Kind.the-variants.{Null, Object, UniformObject, Array, UniformArray, Binary, String, IntegerPositive, IntegerNegative, Float32, Float64, False, True, ObjectAttachment, BinaryAttachment, Hash, Uuid, DateTime, TimeSpan, ObjectId, CustomById, CustomByName}
+use Rattle.format.specs.declared.Kind.the-variants.{Object, Array, Float64}
 use Rattle.format.specs.Kinds.{same, all, any, isBare, isUniform, isUniformArray}
 use Rattle.format.specs.Parse.{Flaw, twin, blank, long, low, wide, notText, notUniform}
 use Rattle.format.specs.Names.{isEmpty, twins}
@@ -26,9 +26,11 @@ use Rattle.format.specs.Values.{Sort, whole, real, time, other, floatBits}
 use Rattle.format.specs.Mask.{has, flaws}
 use Rattle.format.specs.Show.{ShownPayload}
 use Rattle.spelling.specs.Flawed.{Part, parts, inside, namesOf, textsOf, numberOf, isLow, isHeld, flawedPart, flawed}
-use Rattle.spelling.specs.FlawTable.{In, Twice, OneId, NotBare, FlawIn, HasFlaw}
+use Rattle.spelling.specs.Spells.{Bare}
+use Rattle.spelling.specs.FlawTable.{In, Twice, OneId, FlawIn, HasFlaw}
 use Rattle.format.proofs.Lists.{map-same, and-true}
 use Rattle.format.proofs.KindLaws.{same-eq, all-same, same-all}
+use Rattle.spelling.proofs.BareKinds.{not-bare-exactly}
 use Rattle.spelling.proofs.AnyLaws.{any-in, in-any}
 use Rattle.spelling.proofs.Tells.{is}
 use Rattle.spelling.proofs.FlawsMet.{met-is-flawed}
@@ -120,59 +122,26 @@ uniform-exactly ks = (to ks, λ i. rw (i .1 .1) (all-from (i .0) (i .1 .0) (i .1
     to [] h = fails h
     to (k ∷ ks) h = (k, (ks, refl, all-to k ks h))
 
-bare-exactly : (j : Kind) → (isBare j ≡ false) ↔ NotBare j
-unfolding isBare
-bare-exactly j = ((λ h. (no j Null h refl, no j False h refl, no j True h refl)), from j)
-  where
-    no : (j k : Kind) → isBare j ≡ false → isBare k ≡ true → j ≡ k → ⊥
-    no j k h i e = fails (sym h ∙ (ap isBare e ∙ i))
-
-    from : (j : Kind) → NotBare j → isBare j ≡ false
-    from = elim [
-      | Null ↦ λ f. absurd (f .0 refl)
-      | Object ↦ λ f. refl
-      | UniformObject ↦ λ f. refl
-      | Array ↦ λ f. refl
-      | UniformArray ↦ λ f. refl
-      | Binary ↦ λ f. refl
-      | String ↦ λ f. refl
-      | IntegerPositive ↦ λ f. refl
-      | IntegerNegative ↦ λ f. refl
-      | Float32 ↦ λ f. refl
-      | Float64 ↦ λ f. refl
-      | False ↦ λ f. absurd (f .1 refl)
-      | True ↦ λ f. absurd (f .2 refl)
-      | ObjectAttachment ↦ λ f. refl
-      | BinaryAttachment ↦ λ f. refl
-      | Hash ↦ λ f. refl
-      | Uuid ↦ λ f. refl
-      | DateTime ↦ λ f. refl
-      | TimeSpan ↦ λ f. refl
-      | ObjectId ↦ λ f. refl
-      | CustomById ↦ λ f. refl
-      | CustomByName ↦ λ f. refl
-    ]
-
-pub uniform-array-exactly : (ks : List Kind) → (isUniformArray ks ≡ true) ↔ ((j : Kind) × NotBare j × OneId j ks)
+pub uniform-array-exactly : (ks : List Kind) → (isUniformArray ks ≡ true) ↔ ((j : Kind) × (Bare j → ⊥) × OneId j ks)
 unfolding isUniformArray
-uniform-array-exactly ks = (to ks, λ i. rw (i .2 .1, bare-exactly (i .0) .1 (i .1)) (all-from (i .0) (i .2 .0) (i .2 .2)))
+uniform-array-exactly ks = (to ks, λ i. rw (i .2 .1, not-bare-exactly (i .0) .1 (i .1)) (all-from (i .0) (i .2 .0) (i .2 .2)))
   where
-    to : (ks : List Kind) → isUniformArray ks ≡ true → (j : Kind) × NotBare j × OneId j ks
+    to : (ks : List Kind) → isUniformArray ks ≡ true → (j : Kind) × (Bare j → ⊥) × OneId j ks
     to [] h = fails h
-    to (k ∷ ks) h = let i = and-true (not (isBare k)) (all (same k) ks) h in (k, bare-exactly k .0 (not-true (isBare k) (i .0)), (ks, refl, all-to k ks (i .1)))
+    to (k ∷ ks) h = let i = and-true (not (isBare k)) (all (same k) ks) h in (k, not-bare-exactly k .0 (not-true (isBare k) (i .0)), (ks, refl, all-to k ks (i .1)))
 
 not-uniform-exactly : (k : Kind) (ks : List Kind)
     → (((same k Object && isUniform ks) || (same k Array && isUniformArray ks)) ≡ true) ↔ (((k ≡ Object) × (j : Kind) × OneId j ks)
-    ⊎ ((k ≡ Array) × (j : Kind) × NotBare j × OneId j ks))
+    ⊎ ((k ≡ Array) × (j : Kind) × (Bare j → ⊥) × OneId j ks))
 not-uniform-exactly k ks = ((λ h. to (either (same k Object && isUniform ks) (same k Array && isUniformArray ks) h)), from)
   where
     to : ((same k Object && isUniform ks) ≡ true) ⊎ ((same k Array && isUniformArray ks) ≡ true)
-        → ((k ≡ Object) × (j : Kind) × OneId j ks) ⊎ ((k ≡ Array) × (j : Kind) × NotBare j × OneId j ks)
+        → ((k ≡ Object) × (j : Kind) × OneId j ks) ⊎ ((k ≡ Array) × (j : Kind) × (Bare j → ⊥) × OneId j ks)
     to (inl h) = let i = and-true (same k Object) (isUniform ks) h in let u = uniform-exactly ks .0 (i .1) in inl (same-eq k Object (i .0), u .0, u .1)
     to (inr h) =
         let i = and-true (same k Array) (isUniformArray ks) h in let u = uniform-array-exactly ks .0 (i .1) in inr (same-eq k Array (i .0), u .0, u .1, u .2)
 
-    from : ((k ≡ Object) × (j : Kind) × OneId j ks) ⊎ ((k ≡ Array) × (j : Kind) × NotBare j × OneId j ks)
+    from : ((k ≡ Object) × (j : Kind) × OneId j ks) ⊎ ((k ≡ Array) × (j : Kind) × (Bare j → ⊥) × OneId j ks)
         → ((same k Object && isUniform ks) || (same k Array && isUniformArray ks)) ≡ true
     from (inl i) = rw (i .0, uniform-exactly ks .1 (i .1, i .2))
     from (inr i) = rw (i .0, uniform-array-exactly ks .1 (i .1, i .2, i .3))

@@ -1,7 +1,7 @@
 -- A layer by the kind, and every layer: a field is read just as the grammar spells it.
 use Prim.Native.Nat.{ℕ, zero, suc, _^_, _≤_}
 use native.Mathlib.Omega.{arith}
-use mathlib.Core.Path.{_≡_, refl, sym, ap, subst}
+use mathlib.Core.Path.{_≡_, refl, sym, ap, subst, _∙_}
 use mathlib.Core.Bool.{Bool, true, false, not, cond}
 use mathlib.Core.List.{List, [], _∷_, _++_}
 use lib.ListN.{length, length-append}
@@ -19,13 +19,14 @@ use Rattle.format.specs.declared.Form.{Form}
 use Rattle.format.specs.declared.Form.the-variants.{Field, Item, SharedField, SharedItem}
 use Rattle.format.specs.declared.Stop.the-variants.{BadUniform}
 use Rattle.format.specs.Kinds.{typeByte, kindAt, isBare}
-use Rattle.format.specs.Parse.{Flaw, low, wide, fault, got, bind, make, whole, readVarUInt, fixed, sized, rest}
+use Rattle.format.specs.Parse.{Flaw, low, wide, Out, fault, got, bind, make, whole, readVarUInt, fixed, sized, rest}
 use Rattle.format.specs.Names.{readText}
-use Rattle.format.specs.Tree.{null, bool, integer, float, binary, string, objectAttachment, binaryAttachment, hash, uuid, objectId, dateTime, timeSpan, customById, customByName, Node}
-use Rattle.format.specs.Payload.{payload, float32, float64, readNegative, readFloat64, readCustomById, readCustomByName, Head, fieldsIn, itemsIn, sharedFieldsOf, readSharedFields, sharedItemsOf, readSharedItems, readFields, readItems, front, head}
+use Rattle.format.specs.Tree.{Leaf, null, bool, integer, float, binary, string, objectAttachment, binaryAttachment, hash, uuid, objectId, dateTime, timeSpan, customById, customByName, Node, atom}
+use Rattle.format.specs.Payload.{value, payload, float32, float64, readNegative, readFloat64, readCustomById, readCustomByName, Head, fieldsIn, itemsIn, sharedFieldsOf, readSharedFields, sharedItemsOf, readSharedItems, readFields, readItems, front, head}
 use Rattle.format.specs.Reader.{Standing, Named, Layout, Reader, contents, readNode, readField, read}
-use Rattle.spelling.specs.Spells.{All-of, Made, Behind, Sized, LeafSpells, FrontSpells, FieldsSpell, ItemsSpell, SharedFieldsSpell, SharedItemsSpell, NodeSpells, FieldSpells, Spells}
+use Rattle.spelling.specs.Spells.{Bare, All-of, Exactly, Made, Behind, Sized, FrontSpells, FieldsSpell, ItemsSpell, SharedFieldsSpell, SharedItemsSpell, NodeSpells, FieldSpells, Spells}
 use Rattle.format.proofs.KindLaws.{kind-rt, kind-inv}
+use Rattle.spelling.proofs.BareKinds.{not-bare-exactly}
 use Rattle.format.proofs.Back.{never}
 use Rattle.format.proofs.Lists.{bytes-right}
 use Rattle.format.proofs.Local.{with-put, bind-got}
@@ -110,7 +111,7 @@ module _ {C : List Flaw → Type 0} (clean : Clean C) {Num : ℕ → List ℕ �
               s,
               ap (λ b. b ∷ s) (kind-inv SharedByItems b j k),
               omega arith,
-              m,
+              not-bare-exactly j .0 m,
               items-part clean num p S good (SharedItem j) (suc n) .to s t gs (y .1)
                   (subst (λ h. contents p h ≡ got t gs []) (sym z) i) d,
             )
@@ -120,10 +121,10 @@ module _ {C : List Flaw → Type 0} (clean : Clean C) {Num : ℕ → List ℕ �
         go zero (Is j) k e = never e
         go (suc n) (Is j) k e = bare n j k (isBare j) refl e
 
-    shared-items-from : (n : ℕ) (j : Kind) (w b : List ℕ) → b ≡ typeByte SharedByItems j ∷ w → 1 ≤ n → isBare j ≡ false
+    shared-items-from : (n : ℕ) (j : Kind) (w b : List ℕ) → b ≡ typeByte SharedByItems j ∷ w → 1 ≤ n → (Bare j → ⊥)
         → readSharedItems n b ≡ got (itemsIn (SharedItem j) n w) [] []
     shared-items-from zero j w b e l m = absurd (omega arith)
-    shared-items-from (suc n) j w b e l m = rw (e, kind-rt SharedByItems j, m)
+    shared-items-from (suc n) j w b e l m = rw (e, kind-rt SharedByItems j, not-bare-exactly j .1 m)
 
     shared-array-node : Front C (λ s. bind (sized (λ b. bind (readVarUInt b) readSharedItems) s) λ h r. whole (contents p h) r)
         (Sized Num (Behind Num (SharedItemsSpell Num S)))
@@ -147,35 +148,59 @@ module _ {C : List Flaw → Type 0} (clean : Clean C) {Num : ℕ → List ℕ �
     sized-rest : Front C (sized rest) (Sized Num All-of)
     sized-rest = front-sized clean num rest All-of (part-rest clean)
 
+    -- a leaf with nothing in its payload; one that is made; a custom
+    bare-leaf : (v : Leaf) → Front C (λ s. bind (make value (got v [] s)) λ h r. whole (contents p h) r) (λ n w. (n ≡ atom v) × (w ≡ []))
+    bare-leaf v = front-as clean _ (Made atom (λ b w. (b ≡ v) × (w ≡ []))) (λ n w. (n ≡ atom v) × (w ≡ []))
+        (λ n w y i. (i .1 ∙ ap atom (i .2 .0), i .2 .1)) (λ n w i. (v, i .0, (refl, i .1)))
+        (leaf-node clean num p (λ s. got v [] s) (λ b w. (b ≡ v) × (w ≡ [])) (front-got clean v))
+
+    made-leaf : {B : Type 0} (g : B → Leaf) (q : List ℕ → Out Leaf) (T : B → List ℕ → Type 0) → Front C q (Made g T)
+        → Front C (λ s. bind (make value (q s)) λ h r. whole (contents p h) r) (Made (λ b. atom (g b)) T)
+    made-leaf g q T h = front-as clean _ (Made atom (Made g T)) (Made (λ b. atom (g b)) T)
+        (λ n w y i. (i .2 .0, i .1 ∙ ap atom (i .2 .1), i .2 .2)) (λ n w i. (g (i .0), i .1, (i .0, refl, i .2)))
+        (leaf-node clean num p q (Made g T) h)
+
+    custom-leaf : {B : Type 0} (g : B → List ℕ → Leaf) (q : List ℕ → Out Leaf) (T : B → List ℕ → Type 0) → Front C q (Sized Num (Behind T (λ i. Made (g i) All-of)))
+        → Front C (λ s. bind (make value (q s)) λ h r. whole (contents p h) r) (Sized Num (Behind T (λ i. Made (λ b. atom (g i b)) All-of)))
+    custom-leaf g q T h = front-as clean _ (Made atom (Sized Num (Behind T (λ i. Made (g i) All-of)))) (Sized Num (Behind T (λ i. Made (λ b. atom (g i b)) All-of)))
+        (λ n w y i. let j = i .2 in let k = j .4 in (j .0, j .1, j .2, j .3, (k .0, k .1, k .2, k .3, k .4, (k .5 .0, i .1 ∙ ap atom (k .5 .1), k .5 .2))))
+        (λ n w j. let k = j .4 in (g (k .0) (k .5 .0), k .5 .1, (j .0, j .1, j .2, j .3, (k .0, k .1, k .2, k .3, k .4, (k .5 .0, refl, k .5 .2)))))
+        (leaf-node clean num p q (Sized Num (Behind T (λ i. Made (g i) All-of))) h)
+
+    fixed-leaf : (n : ℕ) (g : List ℕ → Leaf)
+        → Front C (λ s. bind (make value (make g (fixed n s))) λ h r. whole (contents p h) r) (Made (λ b. atom (g b)) (Exactly n))
+    fixed-leaf n g = made-leaf g (λ s. make g (fixed n s)) (Exactly n) (front-make clean g (fixed n) (Exactly n) (front-fixed clean n))
+
     front-node : (k : Kind) → Front C (readNode p k) (NodeSpells Num S k)
     unfolding head payload
     front-node = elim [
-      | Null ↦ leaf-node clean num p (λ s. got null [] s) (LeafSpells Num Null) (front-got clean null)
+      | Null ↦ bare-leaf null
       | Object ↦ object-node
       | UniformObject ↦ shared-object-node
       | Array ↦ array-node
       | UniformArray ↦ shared-array-node
-      | Binary ↦ leaf-node clean num p _ (LeafSpells Num Binary) (front-make clean binary (sized rest) _ sized-rest)
-      | String ↦ leaf-node clean num p _ (LeafSpells Num String) (front-make clean string readText _ (front-text clean num))
-      | IntegerPositive ↦ leaf-node clean num p _ (LeafSpells Num IntegerPositive) (front-make clean (λ m. integer (pos m)) readVarUInt Num num)
-      | IntegerNegative ↦ leaf-node clean num p readNegative (LeafSpells Num IntegerNegative)
+      | Binary ↦ made-leaf binary (λ s. make binary (sized rest s)) (Sized Num All-of) (front-make clean binary (sized rest) _ sized-rest)
+      | String ↦ made-leaf string (λ s. make string (readText s)) (Sized Num All-of) (front-make clean string readText _ (front-text clean num))
+      | IntegerPositive ↦ made-leaf (λ m. integer (pos m)) (λ s. make (λ m. integer (pos m)) (readVarUInt s)) Num
+          (front-make clean (λ m. integer (pos m)) readVarUInt Num num)
+      | IntegerNegative ↦ made-leaf (λ m. integer (negsuc m)) readNegative Num
           (front-flag clean (λ m. integer (negsuc m)) (λ m. not (ltb m (2 ^ 63))) low refl readVarUInt Num num)
-      | Float32 ↦ leaf-node clean num p _ (LeafSpells Num Float32) (front-make clean (λ b. float (float32 (fromBytes b))) (fixed 4) _ (front-fixed clean 4))
-      | Float64 ↦ leaf-node clean num p readFloat64 (LeafSpells Num Float64)
+      | Float32 ↦ fixed-leaf 4 (λ b. float (float32 (fromBytes b)))
+      | Float64 ↦ made-leaf (λ b. float (float64 (fromBytes b))) readFloat64 (Exactly 8)
           (front-flag clean (λ b. float (float64 (fromBytes b))) (λ b. holds (fromBytes b)) wide refl (fixed 8) _ (front-fixed clean 8))
-      | False ↦ leaf-node clean num p (λ s. got (bool false) [] s) (LeafSpells Num False) (front-got clean (bool false))
-      | True ↦ leaf-node clean num p (λ s. got (bool true) [] s) (LeafSpells Num True) (front-got clean (bool true))
-      | ObjectAttachment ↦ leaf-node clean num p _ (LeafSpells Num ObjectAttachment) (front-make clean objectAttachment (fixed 20) _ (front-fixed clean 20))
-      | BinaryAttachment ↦ leaf-node clean num p _ (LeafSpells Num BinaryAttachment) (front-make clean binaryAttachment (fixed 20) _ (front-fixed clean 20))
-      | Hash ↦ leaf-node clean num p _ (LeafSpells Num Hash) (front-make clean hash (fixed 20) _ (front-fixed clean 20))
-      | Uuid ↦ leaf-node clean num p _ (LeafSpells Num Uuid) (front-make clean uuid (fixed 16) _ (front-fixed clean 16))
-      | DateTime ↦ leaf-node clean num p _ (LeafSpells Num DateTime) (front-make clean (λ b. dateTime (fromTwos (fromBytes b))) (fixed 8) _ (front-fixed clean 8))
-      | TimeSpan ↦ leaf-node clean num p _ (LeafSpells Num TimeSpan) (front-make clean (λ b. timeSpan (fromTwos (fromBytes b))) (fixed 8) _ (front-fixed clean 8))
-      | ObjectId ↦ leaf-node clean num p _ (LeafSpells Num ObjectId) (front-make clean objectId (fixed 12) _ (front-fixed clean 12))
-      | CustomById ↦ leaf-node clean num p (sized readCustomById) (LeafSpells Num CustomById)
-          (front-sized clean num readCustomById _ (part-bind clean readVarUInt (λ n r. make (customById n) (rest r)) Num _ num
-          (λ n. part-make clean (customById n) rest All-of (part-rest clean))))
-      | CustomByName ↦ leaf-node clean num p (sized readCustomByName) (LeafSpells Num CustomByName)
+      | False ↦ bare-leaf (bool false)
+      | True ↦ bare-leaf (bool true)
+      | ObjectAttachment ↦ fixed-leaf 20 objectAttachment
+      | BinaryAttachment ↦ fixed-leaf 20 binaryAttachment
+      | Hash ↦ fixed-leaf 20 hash
+      | Uuid ↦ fixed-leaf 16 uuid
+      | DateTime ↦ fixed-leaf 8 (λ b. dateTime (fromTwos (fromBytes b)))
+      | TimeSpan ↦ fixed-leaf 8 (λ b. timeSpan (fromTwos (fromBytes b)))
+      | ObjectId ↦ fixed-leaf 12 objectId
+      | CustomById ↦ custom-leaf customById (sized readCustomById) Num
+          (front-sized clean num readCustomById _
+          (part-bind clean readVarUInt (λ n r. make (customById n) (rest r)) Num _ num (λ n. part-make clean (customById n) rest All-of (part-rest clean))))
+      | CustomByName ↦ custom-leaf customByName (sized readCustomByName) (Sized Num All-of)
           (front-sized clean num readCustomByName _
           (part-bind clean readText (λ n r. make (customByName n) (rest r)) _ _ (front-text clean num)
           (λ n. part-make clean (customByName n) rest All-of (part-rest clean))))

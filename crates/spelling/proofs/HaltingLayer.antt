@@ -26,9 +26,10 @@ use Rattle.format.specs.Names.{readText}
 use Rattle.format.specs.Tree.{Leaf, null, bool, integer, float, binary, string, objectAttachment, binaryAttachment, hash, uuid, objectId, dateTime, timeSpan, customById, customByName}
 use Rattle.format.specs.Payload.{payload, float32, float64, readNegative, readFloat64, readCustomById, readCustomByName, Head, value, itemsIn, sharedFieldsOf, readSharedFields, sharedItemsOf, readSharedItems, readFields, readItems, front, head}
 use Rattle.format.specs.Reader.{Standing, Named, Reader, contents, readNode, readField, read}
-use Rattle.spelling.specs.Spells.{anyForm, FrontSpells, Spells}
+use Rattle.spelling.specs.Spells.{anyForm, Bare, FrontSpells, Spells}
 use Rattle.spelling.specs.Halts.{NumberHalts, BytesHalt, TextHalts, SizedHalts, CountedHalts, FrontHalts, FieldsHalt, ItemsHalt, SharedFieldsHalt, SharedItemsHalt, NodeHalts, FieldHalts, HaltsAt}
 use Rattle.format.proofs.KindLaws.{kind-rt, kind-inv}
+use Rattle.spelling.proofs.BareKinds.{bare-exactly, not-bare-exactly}
 use Rattle.format.proofs.Back.{never}
 use Rattle.format.proofs.Local.{bind-got}
 use Rattle.spelling.proofs.Grammar.{Front}
@@ -134,8 +135,9 @@ module _ {X : Type 0} (p : Reader X) where
             bare : (n : ℕ) (j : Kind) → b ≡ typeByte SharedByItems j → (x : Bool) → isBare j ≡ x
                 → bind (cond x (fault T.BadUniform) (got (itemsIn (SharedItem j) (suc n) s) [] [])) (λ h r. whole (contents p h) r) ≡ fault k
                 → SharedItemsHalt H S (suc n) k (b ∷ s)
-            bare n j i true m e = inr (j, s, ap (λ b. b ∷ s) i, inl (cc, inr m))
-            bare n j i false m e = inr (j, s, ap (λ b. b ∷ s) i, inr (omega arith, m, items-halt p S H good halts (SharedItem j) (suc n) .to s k (y .1) e))
+            bare n j i true m e = inr (j, s, ap (λ b. b ∷ s) i, inl (cc, inr (bare-exactly j .0 m)))
+            bare n j i false m e =
+                inr (j, s, ap (λ b. b ∷ s) i, inr (omega arith, not-bare-exactly j .0 m, items-halt p S H good halts (SharedItem j) (suc n) .to s k (y .1) e))
 
             go : (n : ℕ) (o : Known) → kindAt SharedByItems b ≡ o → bind (sharedItemsOf n o s) (λ h r. whole (contents p h) r) ≡ fault k
                 → SharedItemsHalt H S n k (b ∷ s)
@@ -144,16 +146,16 @@ module _ {X : Type 0} (p : Reader X) where
             go (suc n) (Is j) i e = bare n j (kind-inv SharedByItems b j i) (isBare j) refl e
 
         some : (n : ℕ) (j : Kind) (t : List ℕ) (k : Stop)
-            → ((k ≡ T.BadUniform) × ((n ≡ 0) ⊎ (isBare j ≡ true))) ⊎ ((1 ≤ n) × (isBare j ≡ false) × ItemsHalt H S (SharedItem j) n k t)
+            → ((k ≡ T.BadUniform) × ((n ≡ 0) ⊎ Bare j)) ⊎ ((1 ≤ n) × (Bare j → ⊥) × ItemsHalt H S (SharedItem j) n k t)
             → bind (sharedItemsOf n (Is j) t) (λ h r. whole (contents p h) r) ≡ fault k
         some zero j t k (inl i) = rw (i .0)
         some zero j t k (inr i) = absurd (omega (arith, i .0))
         some (suc n) j t k (inl i) = go (i .0) (i .1)
           where
-            go : k ≡ T.BadUniform → (suc n ≡ 0) ⊎ (isBare j ≡ true) → bind (sharedItemsOf (suc n) (Is j) t) (λ h r. whole (contents p h) r) ≡ fault k
+            go : k ≡ T.BadUniform → (suc n ≡ 0) ⊎ Bare j → bind (sharedItemsOf (suc n) (Is j) t) (λ h r. whole (contents p h) r) ≡ fault k
             go e (inl z) = absurd (omega (arith, z))
-            go e (inr m) = rw (e, m)
-        some (suc n) j t k (inr i) = rw (i .1) (items-halt p S H good halts (SharedItem j) (suc n) .from k t (i .2))
+            go e (inr m) = rw (e, bare-exactly j .1 m)
+        some (suc n) j t k (inr i) = rw (not-bare-exactly j .1 (i .1)) (items-halt p S H good halts (SharedItem j) (suc n) .from k t (i .2))
 
         from : (k : Stop) (b : List ℕ) → SharedItemsHalt H S n k b → bind (readSharedItems n b) (λ h r. whole (contents p h) r) ≡ fault k
         from k b (inl (inl i)) = rw (i .0, i .1)

@@ -3,7 +3,6 @@ use Prim.Native.Nat.{ℕ, zero, suc, _≤_, _<_}
 use native.Mathlib.Omega.{arith}
 use mathlib.Core.Path.{_≡_}
 use mathlib.Core.Logic.{_⊎_, inl, inr}
-use mathlib.Core.Bool.{true, false}
 use mathlib.Core.List.{List, []}
 use lib.ListN.{length}
 use Rattle.format.specs.declared.Kind.{Kind}
@@ -14,10 +13,9 @@ use Rattle.format.specs.declared.Form.the-variants.{Top, Field, Item, SharedFie
 use Rattle.format.specs.declared.Stop.{Stop}
 use Rattle.format.specs.declared.Stop.the-variants.{Early, Unknown, TooLong, BadUniform}
 use Rattle.format.specs.Reader.{Standing, Named}
-use Rattle.spelling.specs.Spells.{anyForm, Spells}
+use Rattle.spelling.specs.Spells.{anyForm, Bare, Spells}
 use Rattle.spelling.specs.Halts.{NumberHalts, TextHalts, SizedHalts, CountedHalts, TypeHalts, FrontHalts, FieldsHalt, ItemsHalt, SharedFieldsHalt, SharedItemsHalt, NodeHalts, HaltsAt}
 use Rattle.format.specs.declared.Mark.the-variants.{OfTop, OfField, OfItem, SharedByFields, SharedByItems}
-use Rattle.format.specs.Kinds.{isBare}
 
 late : TooLong ≡ Early → ⊥
 late e = let z : _≡_ {A = ℕ} 0 1 = cc in omega arith
@@ -67,7 +65,7 @@ module _ {A : Type 0} (H : Form → Stop → List ℕ → Type 0) (S : Form → 
   shared-items-short n b (inr i) = go (i .0) (i .1) (i .3)
     where
       go : (j : Kind) (t : List ℕ)
-          → ((TooLong ≡ BadUniform) × ((n ≡ 0) ⊎ (isBare j ≡ true))) ⊎ ((1 ≤ n) × (isBare j ≡ false) × ItemsHalt H S (SharedItem j) n TooLong t) → ⊥
+          → ((TooLong ≡ BadUniform) × ((n ≡ 0) ⊎ Bare j)) ⊎ ((1 ≤ n) × (Bare j → ⊥) × ItemsHalt H S (SharedItem j) n TooLong t) → ⊥
       go j t (inl e) = bad (e .0)
       go j t (inr e) = items-short (SharedItem j) n t (e .2)
 

@@ -1,3 +1,4 @@
+pub mod BareKinds
 pub mod AnyLaws
 pub mod Tells
 pub mod FlawedParts

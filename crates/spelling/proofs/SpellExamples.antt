@@ -4,7 +4,7 @@ use Prim.Native.Nat.{ℕ, zero, suc, _<_}
 use native.Mathlib.Omega.{arith}
 use mathlib.Core.Path.{_≡_, refl}
 use mathlib.Core.Logic.{inl, inr}
-use mathlib.Core.Bool.{Bool, true}
+use mathlib.Core.Bool.{true}
 use mathlib.Core.List.{List, [], _∷_, map}
 use lib.ListN.{length}
 use lib.Dec.{ltb}
@@ -28,13 +28,14 @@ use Rattle.format.specs.Mask.{stopValue, mask, boundsOnly}
 use Rattle.spelling.specs.Spells.{anyForm, Run, Spells}
 use Rattle.spelling.specs.Halts.{Halts}
 use Rattle.format.proofs.Lists.{and-true}
+use Rattle.spelling.proofs.BareKinds.{not-bare-exactly}
 use Rattle.spelling.proofs.Halted.{stops-exactly}
 
 -- ---- spelled out
 
 -- 5, in two bytes
 pub five : Spells anyForm 1 Top ([], (IntegerPositive, atom (integer (pos 5)))) (0x08 ∷ 0x80 ∷ 0x05 ∷ [])
-five = (0x08 ∷ [], 0x80 ∷ 0x05 ∷ [], refl, (refl, refl), (integer (pos 5), refl, (5, refl, (1, omega arith, omega arith, refl))))
+five = (0x08 ∷ [], 0x80 ∷ 0x05 ∷ [], refl, (refl, refl), (5, refl, (1, omega arith, omega arith, refl)))
 
 -- a number below 128 in one byte, and as an item of 05
 abbrev at : ℕ → Named (Standing (Layout 1))
@@ -47,7 +48,7 @@ abbrev Number : ℕ → Type 0
 Number n = Spells anyForm 1 (SharedItem IntegerPositive) (at n) (n ∷ [])
 
 number : (n : ℕ) → Small n → Number n
-number n i = ([], n ∷ [], refl, (refl, refl), (integer (pos n), refl, (n, refl, i)))
+number n i = ([], n ∷ [], refl, (refl, refl), (n, refl, i))
 
 -- 1, 2 and 3 in 05
 pub counted : Spells anyForm 2 Top ([], (UniformArray, array (at 1 .1 ∷ at 2 .1 ∷ at 3 .1 ∷ []))) (0x05 ∷ 0x05 ∷ 0x03 ∷ 0x08 ∷ 0x01 ∷ 0x02 ∷ 0x03 ∷ [])
@@ -76,7 +77,7 @@ counted =
           0x08 ∷ 0x01 ∷ 0x02 ∷ 0x03 ∷ [],
           refl,
           small 3 (omega arith) refl,
-          (IntegerPositive, 0x01 ∷ 0x02 ∷ 0x03 ∷ [], refl, omega arith, refl, (at 1 ∷ at 2 ∷ at 3 ∷ [], refl, refl, items)),
+          (IntegerPositive, 0x01 ∷ 0x02 ∷ 0x03 ∷ [], refl, omega arith, not-bare-exactly IntegerPositive .0 refl, (at 1 ∷ at 2 ∷ at 3 ∷ [], refl, refl, items)),
         ),
       ),
     )
@@ -105,7 +106,7 @@ named = (
           0x01 ∷ 0x77 ∷ [],
           refl,
           (0x01 ∷ 0x61 ∷ [], refl, (0x01 ∷ [], 0x61 ∷ [], refl, (0, omega arith, omega arith, refl), refl)),
-          (string (0x77 ∷ []), refl, (0x77 ∷ [], refl, (0x01 ∷ [], 0x77 ∷ [], refl, (0, omega arith, omega arith, refl), refl))),
+          (0x77 ∷ [], refl, (0x01 ∷ [], 0x77 ∷ [], refl, (0, omega arith, omega arith, refl), refl)),
         ),
         refl,
       ),

@@ -1,9 +1,10 @@
 -- The mask tied to the payload, for the page of demands: what was read, its flaws and its stopping fault, each exactly what document 01 says, with the
--- grammar of spellings (specs/Spells.antt), what breaks it (specs/Halts.antt) and the table of flaws (specs/FlawTable.antt). The proofs are citations.
+-- grammar of spellings (specs/Spells.antt), what breaks it (specs/Halts.antt) and the table of flaws (specs/FlawTable.antt), put together in
+-- specs/MaskSaid.antt. The proofs are citations.
 use Prim.Native.Nat.{ℕ, _+_, _≤_, _<_}
 use mathlib.Core.Path.{_≡_}
-use mathlib.Core.Logic.{_↔_, _⊎_}
-use mathlib.Core.Bool.{Bool, true, false}
+use mathlib.Core.Logic.{_↔_}
+use mathlib.Core.Bool.{true, false}
 use mathlib.Core.List.{List, [], _++_}
 use lib.ListN.{length}
 use Rattle.number.specs.BigEndian.{Bytes}
@@ -16,9 +17,10 @@ use Rattle.format.specs.Reader.{Standing, Named, Layout}
 use Rattle.format.specs.Mask.{stopValue, flaws, has, sumOf, paddingOf, mask, boundsOnly}
 use Rattle.format.specs.Show.{ShownPayload}
 use Rattle.spelling.specs.Flawed.{sumWhere}
-use Rattle.spelling.specs.FlawTable.{HasFlaw, Untidy}
+use Rattle.spelling.specs.FlawTable.{HasFlaw, FlawsTold}
 use Rattle.spelling.specs.Spells.{anyForm, minimalForm, Spells}
 use Rattle.spelling.specs.Halts.{Halts}
+use Rattle.spelling.specs.MaskSaid.{MaskSaid}
 use Rattle.spelling.proofs.FlawsMet as met
 use Rattle.spelling.proofs.FlawsExactly as exactly
 use Rattle.spelling.proofs.Spelled as spelled
@@ -27,14 +29,14 @@ use Rattle.spelling.proofs.MaskTold as told
 
 -- ---- every payload
 
--- it halts, with one stopping fault, which is the whole mask whatever is asked; or it begins with a spelling of a layout, and for each flaw there is a yes
--- or no, yes exactly if the table says so, and the mask is the sum of those with a yes, each once where its mode is asked, and of what is left where Padding
--- is. No word of the reader
-pub mask-told : (payload : List ℕ) → Bytes payload
-    → ((k : Stop) × Halts k payload × ((modes : ℕ) → mask modes payload ≡ stopValue k))
-    ⊎ ((x : Named (Standing (Layout depthLimit))) × (w left : List ℕ) × (length payload ≤ lengthLimit) × (payload ≡ w ++ left) × Spells anyForm depthLimit Top x w
-    × (so : Flaw → Bool) × ((f : Flaw) → (so f ≡ true) ↔ Untidy x w f) × ((modes : ℕ) → mask modes payload ≡ sumWhere modes so flaws + paddingOf modes left))
+-- it halts with one stopping fault, which is the whole mask whatever is asked; or it begins with a spelling of a layout, and the mask is the sum of the flaws
+-- that document 01's table gives it, each once where its mode is asked, and of what is left where Padding is. No word of the reader
+pub mask-told : (payload : List ℕ) → Bytes payload → MaskSaid payload (λ modes. mask modes payload)
 mask-told = told.mask-told
+
+-- and no second answer satisfies the same words
+pub mask-only : (payload : List ℕ) → Bytes payload → (answer : ℕ → ℕ) → MaskSaid payload answer → (modes : ℕ) → answer modes ≡ mask modes payload
+mask-only = told.mask-only
 
 -- ---- stopping faults
 
@@ -70,8 +72,7 @@ one-layout = spelled.one-layout
 
 -- its mask
 pub mask-of-spelling : (x : Named (Standing (Layout depthLimit))) (w left : List ℕ) → Bytes (w ++ left) → length (w ++ left) ≤ lengthLimit
-    → Spells anyForm depthLimit Top x w
-    → (so : Flaw → Bool) × ((f : Flaw) → (so f ≡ true) ↔ Untidy x w f) × ((modes : ℕ) → mask modes (w ++ left) ≡ sumWhere modes so flaws + paddingOf modes left)
+    → Spells anyForm depthLimit Top x w → (t : FlawsTold x w) × ((modes : ℕ) → mask modes (w ++ left) ≡ sumWhere modes (t .so) flaws + paddingOf modes left)
 mask-of-spelling = told.spelling-told
 
 -- ---- what was read

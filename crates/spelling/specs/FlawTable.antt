@@ -2,8 +2,8 @@
 -- tests. That the tests of Flawed.antt come to this is proofs/FlawsExactly.antt. `long` is about bytes that a layout does not have.
 use Prim.Native.Nat.{ℕ, _^_, _≤_}
 use mathlib.Core.Path.{_≡_}
-use mathlib.Core.Logic.{_⊎_}
-use mathlib.Core.Bool.{true, false}
+use mathlib.Core.Logic.{_↔_, _⊎_}
+use mathlib.Core.Bool.{Bool, true, false}
 use mathlib.Core.List.{List, [], _∷_, _++_}
 use lib.IntN.{negsuc}
 use Rattle.number.specs.BigEndian.{All}
@@ -18,7 +18,7 @@ use Rattle.format.specs.Limits.{depthLimit}
 use Rattle.format.specs.Reader.{Standing, Named, Layout}
 use Rattle.format.specs.Values.{whole, real, floatBits}
 use Rattle.spelling.specs.Flawed.{Part, parts, inside, namesOf, textsOf, numberOf}
-use Rattle.spelling.specs.Spells.{minimalForm, Spells}
+use Rattle.spelling.specs.Spells.{minimalForm, Bare, Spells}
 
 -- one of them; two of them, at two places, equal
 abbrev pub In : {A : Type 0} → A → List A → Type 0
@@ -31,10 +31,6 @@ Twice {A} xs = (x : A) × (a b c : List A) × (xs ≡ a ++ (x ∷ (b ++ (x ∷ c
 abbrev pub OneId : Kind → List Kind → Type 0
 OneId j ks = (js : List Kind) × (ks ≡ j ∷ js) × All (λ l. l ≡ j) js
 
--- not of 01, 0C, 0D
-abbrev pub NotBare : Kind → Type 0
-NotBare j = (j ≡ K.Null → ⊥) × (j ≡ K.False → ⊥) × (j ≡ K.True → ⊥)
-
 -- `negsuc m` is minus (m plus 1)
 abbrev pub FlawIn : Flaw → Kind → Node Kind → Type 0
 FlawIn twin k n = Twice (namesOf n)
@@ -43,18 +39,15 @@ FlawIn long k n = ⊥
 FlawIn low k n = (m : ℕ) × (numberOf n ≡ whole (negsuc m)) × (2 ^ 63 ≤ m)
 FlawIn wide k n = (k ≡ K.Float64) × (x : Float) × (numberOf n ≡ real x) × (holds (floatBits x) ≡ true)
 FlawIn notText k n = (t : List ℕ) × In t (textsOf n) × (isText t ≡ false)
-FlawIn notUniform k n = ((k ≡ K.Object) × (j : Kind) × OneId j (inside n)) ⊎ ((k ≡ K.Array) × (j : Kind) × NotBare j × OneId j (inside n))
+FlawIn notUniform k n = ((k ≡ K.Object) × (j : Kind) × OneId j (inside n)) ⊎ ((k ≡ K.Array) × (j : Kind) × (Bare j → ⊥) × OneId j (inside n))
 
 -- some field of the layout has it
 abbrev pub HasFlaw : Flaw → (d : ℕ) → Standing (Layout d) → Type 0
 HasFlaw f d x = (p : Part) × In p (parts d x) × FlawIn f (p .0) (p .1)
 
--- of a payload that begins with w, a spelling of x: the layout has it; and `long`, that w is no spelling of x with minimal VarUInts
-abbrev pub Untidy : Named (Standing (Layout depthLimit)) → List ℕ → Flaw → Type 0
-Untidy x w twin = HasFlaw twin depthLimit (x .1)
-Untidy x w blank = HasFlaw blank depthLimit (x .1)
-Untidy x w long = Spells minimalForm depthLimit Top x w → ⊥
-Untidy x w low = HasFlaw low depthLimit (x .1)
-Untidy x w wide = HasFlaw wide depthLimit (x .1)
-Untidy x w notText = HasFlaw notText depthLimit (x .1)
-Untidy x w notUniform = HasFlaw notUniform depthLimit (x .1)
+-- of a payload that begins with w, a spelling of x: for each flaw a yes or no. 64 has a no exactly if w is a spelling of x with minimal VarUInts; any other
+-- has a yes exactly if the layout has it
+pub record FlawsTold (x : Named (Standing (Layout depthLimit))) (w : List ℕ) : Type 0 where
+  pub so : Flaw → Bool
+  pub minimal : (so long ≡ false) ↔ Spells minimalForm depthLimit Top x w
+  pub others : (f : Flaw) → (f ≡ long → ⊥) → (so f ≡ true) ↔ HasFlaw f depthLimit (x .1)

@@ -4,7 +4,6 @@
 use Prim.Native.Nat.{ℕ, zero, suc, _≤_, _<_}
 use mathlib.Core.Path.{_≡_}
 use mathlib.Core.Logic.{_⊎_}
-use mathlib.Core.Bool.{true, false}
 use mathlib.Core.List.{List, [], _∷_, _++_}
 use lib.ListN.{length}
 use Rattle.format.specs.declared.Kind.{Kind}
@@ -16,9 +15,9 @@ use Rattle.format.specs.declared.Form.the-variants.{Top, Field, Item, SharedFie
 use Rattle.format.specs.declared.Stop.{Stop}
 use Rattle.format.specs.declared.Stop.the-variants.{Early, Unknown, TooDeep, TooLong, BadUniform}
 use Rattle.format.specs.Limits.{depthLimit, lengthLimit}
-use Rattle.format.specs.Kinds.{typeByte, isBare}
+use Rattle.format.specs.Kinds.{typeByte}
 use Rattle.format.specs.Reader.{Standing, Named}
-use Rattle.spelling.specs.Spells.{anyForm, Run, FrontSpells, Spells}
+use Rattle.spelling.specs.Spells.{anyForm, Bare, Run, FrontSpells, Spells}
 
 -- the first thing breaks; or it is spelled, as a, and what stands behind it breaks
 abbrev pub OrBehind : {A : Type 0} → (Stop → List ℕ → Type 0) → (A → List ℕ → Type 0) → (A → Stop → List ℕ → Type 0) → Stop → List ℕ → Type 0
@@ -79,18 +78,23 @@ module _ {A : Type 0} (H : Form → Stop → List ℕ → Type 0) (S : Form → 
 
   -- fewer items than are counted, and one more, which breaks, if by its depth then before its bytes are looked for; or all, and bytes left
   abbrev pub ItemsHalt : Form → ℕ → Stop → List ℕ → Type 0
-  ItemsHalt g n k b = (xs : List (Named (Standing A))) × (u t : List ℕ) × (b ≡ u ++ t) × Run (S g) xs u × (((length xs < n) × H g k t) ⊎ ((length xs ≡ n) × (k ≡ Early) × (1 ≤ length t)))
+  ItemsHalt g n k b =
+      (xs : List (Named (Standing A))) × (u t : List ℕ) × (b ≡ u ++ t) × Run (S g) xs u
+      × (((length xs < n) × H g k t) ⊎ ((length xs ≡ n) × (k ≡ Early) × (1 ≤ length t)))
 
   -- the shared byte, then 2048, then the fields
   abbrev pub SharedFieldsHalt : Stop → List ℕ → Type 0
-  SharedFieldsHalt k b = TypeHalts SharedByFields k b ⊎ ((j : Kind) × (t : List ℕ) × (b ≡ typeByte SharedByFields j ∷ t) × (((k ≡ BadUniform) × (t ≡ [])) ⊎ FieldsHalt (SharedField j) k t))
+  SharedFieldsHalt k b =
+      TypeHalts SharedByFields k b
+      ⊎ ((j : Kind) × (t : List ℕ) × (b ≡ typeByte SharedByFields j ∷ t) × (((k ≡ BadUniform) × (t ≡ [])) ⊎ FieldsHalt (SharedField j) k t))
 
   abbrev pub SharedItemsHalt : ℕ → Stop → List ℕ → Type 0
   SharedItemsHalt n k b =
       TypeHalts SharedByItems k b
       ⊎ ((j : Kind) × (t : List ℕ) × (b ≡ typeByte SharedByItems j ∷ t)
-      × (((k ≡ BadUniform) × ((n ≡ 0) ⊎ (isBare j ≡ true))) ⊎ ((1 ≤ n) × (isBare j ≡ false) × ItemsHalt (SharedItem j) n k t)))
+      × (((k ≡ BadUniform) × ((n ≡ 0) ⊎ Bare j)) ⊎ ((1 ≤ n) × (Bare j → ⊥) × ItemsHalt (SharedItem j) n k t)))
 
+  -- by the kind
   abbrev pub NodeHalts : Kind → Stop → List ℕ → Type 0
   NodeHalts Null k s = ⊥
   NodeHalts Object k s = SizedHalts (FieldsHalt Field) k s
@@ -115,6 +119,7 @@ module _ {A : Type 0} (H : Form → Stop → List ℕ → Type 0) (S : Form → 
   NodeHalts CustomById k s = SizedHalts NumberHalts k s
   NodeHalts CustomByName k s = SizedHalts TextHalts k s
 
+  -- a field: type byte and name, then the payload
   abbrev pub FieldHalts : Form → Stop → List ℕ → Type 0
   FieldHalts g k s = OrBehind (FrontHalts g) (FrontSpells anyForm g) (λ x. NodeHalts (x .1)) k s
 

@@ -2,6 +2,7 @@
 -- bytes stand for a number: any VarUInt of it, or the minimal one only.
 use Prim.Native.Nat.{ℕ, zero, suc, _^_, _≤_, _<_}
 use mathlib.Core.Path.{_≡_}
+use mathlib.Core.Logic.{_⊎_}
 use mathlib.Core.Bool.{true, false}
 use mathlib.Core.List.{List, [], _∷_, _++_, map}
 use lib.ListN.{length, getD}
@@ -14,8 +15,8 @@ use Rattle.format.specs.declared.Kind.the-variants.{Null, Object, UniformObject
 use Rattle.format.specs.declared.Mark.the-variants.{OfTop, OfField, OfItem, SharedByFields, SharedByItems}
 use Rattle.format.specs.declared.Form.{Form}
 use Rattle.format.specs.declared.Form.the-variants.{Top, Field, Item, SharedField, SharedItem}
-use Rattle.format.specs.Kinds.{typeByte, isBare}
-use Rattle.format.specs.Tree.{Leaf, null, bool, integer, float, binary, string, objectAttachment, binaryAttachment, hash, uuid, objectId, dateTime, timeSpan, customById, customByName, Node, atom, array, object}
+use Rattle.format.specs.Kinds.{typeByte}
+use Rattle.format.specs.Tree.{null, bool, integer, float, binary, string, objectAttachment, binaryAttachment, hash, uuid, objectId, dateTime, timeSpan, customById, customByName, Node, atom, array, object}
 use Rattle.format.specs.Payload.{float32, float64}
 use Rattle.format.specs.Reader.{Standing, Named, Layout}
 
@@ -26,6 +27,10 @@ anyForm v u = (n : ℕ) × (n ≤ 8) × (v < getD bounds n (2 ^ 64)) × (u ≡ f
 -- "It is minimal if no shorter form holds the value"
 abbrev pub minimalForm : ℕ → List ℕ → Type 0
 minimalForm v u = anyForm v u × ((t : List ℕ) → anyForm v t → length u ≤ length t)
+
+-- 01, 0C, 0D
+abbrev pub Bare : Kind → Type 0
+Bare j = (j ≡ Null) ⊎ ((j ≡ False) ⊎ (j ≡ True))
 
 -- ---- how things are spelled: S a w says that the bytes w spell a
 
@@ -53,31 +58,6 @@ module _ (Num : ℕ → List ℕ → Type 0) where
   abbrev pub Sized : {A : Type 0} → (A → List ℕ → Type 0) → A → List ℕ → Type 0
   Sized S a w = (u b : List ℕ) × (w ≡ u ++ b) × Num (length b) u × S a b
 
-  -- the payload of a leaf, by its kind; of 09 the number is M
-  abbrev pub LeafSpells : Kind → Leaf → List ℕ → Type 0
-  LeafSpells Null v w = (v ≡ null) × (w ≡ [])
-  LeafSpells Object v w = ⊥
-  LeafSpells UniformObject v w = ⊥
-  LeafSpells Array v w = ⊥
-  LeafSpells UniformArray v w = ⊥
-  LeafSpells Binary v w = Made binary (Sized All-of) v w
-  LeafSpells String v w = Made string (Sized All-of) v w
-  LeafSpells IntegerPositive v w = Made (λ m. integer (pos m)) Num v w
-  LeafSpells IntegerNegative v w = Made (λ m. integer (negsuc m)) Num v w
-  LeafSpells Float32 v w = Made (λ b. float (float32 (fromBytes b))) (Exactly 4) v w
-  LeafSpells Float64 v w = Made (λ b. float (float64 (fromBytes b))) (Exactly 8) v w
-  LeafSpells False v w = (v ≡ bool false) × (w ≡ [])
-  LeafSpells True v w = (v ≡ bool true) × (w ≡ [])
-  LeafSpells ObjectAttachment v w = Made objectAttachment (Exactly 20) v w
-  LeafSpells BinaryAttachment v w = Made binaryAttachment (Exactly 20) v w
-  LeafSpells Hash v w = Made hash (Exactly 20) v w
-  LeafSpells Uuid v w = Made uuid (Exactly 16) v w
-  LeafSpells DateTime v w = Made (λ b. dateTime (fromTwos (fromBytes b))) (Exactly 8) v w
-  LeafSpells TimeSpan v w = Made (λ b. timeSpan (fromTwos (fromBytes b))) (Exactly 8) v w
-  LeafSpells ObjectId v w = Made objectId (Exactly 12) v w
-  LeafSpells CustomById v w = Sized (Behind Num (λ n. Made (customById n) All-of)) v w
-  LeafSpells CustomByName v w = Sized (Behind (Sized All-of) (λ n. Made (customByName n) All-of)) v w
-
   -- type byte and name, as the place asks
   abbrev pub FrontSpells : Form → List ℕ × Kind → List ℕ → Type 0
   FrontSpells Top x w = (x .0 ≡ []) × (w ≡ typeByte OfTop (x .1) ∷ [])
@@ -99,32 +79,32 @@ module _ (Num : ℕ → List ℕ → Type 0) where
     SharedFieldsSpell n b = (j : Kind) × (w : List ℕ) × (b ≡ typeByte SharedByFields j ∷ w) × (1 ≤ length w) × FieldsSpell (SharedField j) n w
 
     abbrev pub SharedItemsSpell : ℕ → Node (Standing A) → List ℕ → Type 0
-    SharedItemsSpell c n b = (j : Kind) × (w : List ℕ) × (b ≡ typeByte SharedByItems j ∷ w) × (1 ≤ c) × (isBare j ≡ false) × ItemsSpell (SharedItem j) c n w
+    SharedItemsSpell c n b = (j : Kind) × (w : List ℕ) × (b ≡ typeByte SharedByItems j ∷ w) × (1 ≤ c) × (Bare j → ⊥) × ItemsSpell (SharedItem j) c n w
 
-    -- the payload, by the kind
+    -- the table of kinds and payloads. Of 09 the number is M, and `negsuc M` is minus (M plus 1)
     abbrev pub NodeSpells : Kind → Node (Standing A) → List ℕ → Type 0
+    NodeSpells Null n w = (n ≡ atom null) × (w ≡ [])
     NodeSpells Object n w = Sized (FieldsSpell Field) n w
     NodeSpells UniformObject n w = Sized SharedFieldsSpell n w
     NodeSpells Array n w = Sized (Behind Num (ItemsSpell Item)) n w
     NodeSpells UniformArray n w = Sized (Behind Num SharedItemsSpell) n w
-    NodeSpells Null n w = Made atom (LeafSpells Null) n w
-    NodeSpells Binary n w = Made atom (LeafSpells Binary) n w
-    NodeSpells String n w = Made atom (LeafSpells String) n w
-    NodeSpells IntegerPositive n w = Made atom (LeafSpells IntegerPositive) n w
-    NodeSpells IntegerNegative n w = Made atom (LeafSpells IntegerNegative) n w
-    NodeSpells Float32 n w = Made atom (LeafSpells Float32) n w
-    NodeSpells Float64 n w = Made atom (LeafSpells Float64) n w
-    NodeSpells False n w = Made atom (LeafSpells False) n w
-    NodeSpells True n w = Made atom (LeafSpells True) n w
-    NodeSpells ObjectAttachment n w = Made atom (LeafSpells ObjectAttachment) n w
-    NodeSpells BinaryAttachment n w = Made atom (LeafSpells BinaryAttachment) n w
-    NodeSpells Hash n w = Made atom (LeafSpells Hash) n w
-    NodeSpells Uuid n w = Made atom (LeafSpells Uuid) n w
-    NodeSpells DateTime n w = Made atom (LeafSpells DateTime) n w
-    NodeSpells TimeSpan n w = Made atom (LeafSpells TimeSpan) n w
-    NodeSpells ObjectId n w = Made atom (LeafSpells ObjectId) n w
-    NodeSpells CustomById n w = Made atom (LeafSpells CustomById) n w
-    NodeSpells CustomByName n w = Made atom (LeafSpells CustomByName) n w
+    NodeSpells Binary n w = Made (λ b. atom (binary b)) (Sized All-of) n w
+    NodeSpells String n w = Made (λ b. atom (string b)) (Sized All-of) n w
+    NodeSpells IntegerPositive n w = Made (λ m. atom (integer (pos m))) Num n w
+    NodeSpells IntegerNegative n w = Made (λ m. atom (integer (negsuc m))) Num n w
+    NodeSpells Float32 n w = Made (λ b. atom (float (float32 (fromBytes b)))) (Exactly 4) n w
+    NodeSpells Float64 n w = Made (λ b. atom (float (float64 (fromBytes b)))) (Exactly 8) n w
+    NodeSpells False n w = (n ≡ atom (bool false)) × (w ≡ [])
+    NodeSpells True n w = (n ≡ atom (bool true)) × (w ≡ [])
+    NodeSpells ObjectAttachment n w = Made (λ b. atom (objectAttachment b)) (Exactly 20) n w
+    NodeSpells BinaryAttachment n w = Made (λ b. atom (binaryAttachment b)) (Exactly 20) n w
+    NodeSpells Hash n w = Made (λ b. atom (hash b)) (Exactly 20) n w
+    NodeSpells Uuid n w = Made (λ b. atom (uuid b)) (Exactly 16) n w
+    NodeSpells DateTime n w = Made (λ b. atom (dateTime (fromTwos (fromBytes b)))) (Exactly 8) n w
+    NodeSpells TimeSpan n w = Made (λ b. atom (timeSpan (fromTwos (fromBytes b)))) (Exactly 8) n w
+    NodeSpells ObjectId n w = Made (λ b. atom (objectId b)) (Exactly 12) n w
+    NodeSpells CustomById n w = Sized (Behind Num (λ i. Made (λ b. atom (customById i b)) All-of)) n w
+    NodeSpells CustomByName n w = Sized (Behind (Sized All-of) (λ t. Made (λ b. atom (customByName t b)) All-of)) n w
 
     -- a field: type byte and name, and the payload
     abbrev pub FieldSpells : Form → Named (Standing (Node (Standing A))) → List ℕ → Type 0

@@ -11,7 +11,7 @@ use Rattle.format.specs.Tree.{Tree}
 use Rattle.format.specs.WriteList.{framed, readList}
 use Rattle.format.specs.Writer.{written}
 
--- a frame begins at p, and no frame before it is faulty: the list cut there is refused with 1 at its end. (Cut inside a frame it would be refused with 2.)
+-- a frame begins at p, and no frame before it is faulty: the list cut there is refused with 1, at its end. (Cut inside a frame it would be refused at that frame, and never with 1.)
 abbrev pub AtFrame : ℕ → List ℕ → List ℕ → List ℕ → Type 0
 AtFrame p list output work = (p < length list) × (written (take p list) output work .answer ≡ Refused ListEnds p)
 
