@@ -253,7 +253,8 @@ fn run(
     }
 }
 
-// The whole program; the answer is its exit status. What it lends, some 330,000 bytes, is on the stack.
+// The whole program; the answer is its exit status. What it lends, some 330,000 bytes, is on the stack, with some 87,000 of the writer's own. The
+// input is read through the text, which nothing stands in yet.
 #[no_mangle]
 pub extern "C" fn ajuqvane_write_list() -> u32
     ensures { λ r. ⌜ r ≤ 2 ⌝ }
