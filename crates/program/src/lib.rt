@@ -62,6 +62,7 @@ fn put_word(word: &[u8], text: &mut [u8], at: usize) -> usize
 fn put_decimal(digits: usize, n: u64, text: &mut [u8], at: usize) -> usize
     requires { ⌜ at + digits ≤ length (now text) ⌝ }
     ensures { λ r. ⌜ record { next = r; text = now (text .exit) } ≡ put (decimal digits n) (now (text .entry)) at ⌝ }
+    ensures { λ r. ⌜ r ≤ at + digits ⌝ }
 {
     if digits == 0 {
         return at;
