@@ -30,7 +30,8 @@ module _ (ss : List (List ℕ)) (l text o w : List ℕ) (h : length (joined ss) 
   in-parts = ap (λ (f : Fed). answered (f .typing) (f .list) text o w) (fed-joined ss start l) ∙ in-whole (joined ss) l h room text o w
 
   -- what it puts is exactly what the program prints of the whole input, and nothing behind it is touched
-  pub what-is-printed : answered (fedParts ss start l .typing) (fedParts ss start l .list) text o w .text ≡ program (joined ss) ++ drop (length (program (joined ss))) text
+  pub what-is-printed : answered (fedParts ss start l .typing) (fedParts ss start l .list) text o w .text
+      ≡ program (joined ss) ++ drop (length (program (joined ss))) text
   unfolding program
   what-is-printed = ap (λ (a : Answered). a .text) in-parts ∙ text-of (bytesTyped (joined ss)) text o w
 
@@ -87,7 +88,8 @@ ran-is before t l c room text o w a f status (inl e) =
       written = written-is (a .answer .refused) status e;
       text-is = λ h. ap (λ (b : Answered). b .text) from ∙ what-is-printed (c .parts) before text o w h room;
       status-is = λ h.
-          e ∙ ap (λ (b : Answered). cond (b .answer .refused) 1 0) (from ∙ in-parts (c .parts) before text o w h room) ∙ status-of (bytesTyped (joined (c .parts))) text o w;
+          e ∙ ap (λ (b : Answered). cond (b .answer .refused) 1 0) (from ∙ in-parts (c .parts) before text o w h room)
+          ∙ status-of (bytesTyped (joined (c .parts))) text o w;
     })
   where
     from : a ≡ answered (fedParts (c .parts) start before .typing) (fedParts (c .parts) start before .list) text o w

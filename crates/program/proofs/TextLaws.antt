@@ -83,9 +83,6 @@ decimal-length (suc d) n = at (ltb n 10) (decimal-length d (n / 10))
     at true h = omega arith
     at false h = omega (arith, length-append (decimal d (n / 10)) ((0x30 + n % 10) ∷ []))
 
-pub decimal-next : (d n : ℕ) (text mid : List ℕ) (at m : ℕ) → record { next = m; text = mid } ≡ put (decimal d n) text at → m ≤ at + d
-decimal-next d n text mid at m e = omega (arith, put-next (decimal d n) text mid at m e, decimal-length d n)
-
 -- ---- bytes
 
 pub digit-low : (n : ℕ) → n < 10 → 0x30 + n ≡ hexDigit n

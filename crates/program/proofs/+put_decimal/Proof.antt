@@ -1,5 +1,5 @@
 -- `program::put_decimal` meets its contract: with each call there is a digit less. Assumes nothing.
-use Prim.Native.Nat.{ℕ, _-_, _/_, _<_}
+use Prim.Native.Nat.{ℕ, _<_}
 use native.Mathlib.Omega.{arith}
 use borrow.Author.Needs.{needs}
 use borrow.Fn.Kinds.{In}
@@ -10,7 +10,7 @@ use Rattle.program.proofs.+put_decimal.Lts-put_decimal as put-decimal-l
 use Rattle.program.proofs.+put_decimal.{statement}
 use Rattle.program.proofs.+put_decimal.Tie.{close}
 use lib.ListN.{length-set}
-use Rattle.program.proofs.TextLaws.{decimal-none, decimal-one, decimal-more, decimal-next, put-length}
+use Rattle.program.proofs.TextLaws.{decimal-none, decimal-one, decimal-more, put-length}
 
 abbrev μ-put-decimal : Measures 1 put-decimal-kinds.ps ℕ
 μ-put-decimal κs a = a .0
@@ -25,18 +25,18 @@ pub +put-decimal-spec : {M : Type 1} → statement M
 +put-decimal-spec =
     close μ-put-decimal λ t.
     put-decimal-lts.spec (put-decimal-below t, put-decimal.Post) (put-decimal-at t) put-decimal.Post
-    (λ c. decimal-none (c .before .before .args .digits) (c .before .before .args .n) _ (c .before .before .args .at) (c .if1 .taken))
+    (λ c. (decimal-none (c .before .before .args .digits) (c .before .before .args .n) _ (c .before .before .args .at) (c .if1 .taken), omega arith))
     (λ c. search needs)
     (λ c. search needs)
     (λ c. omega (arith, c .before .before .before .pre))
     (λ c. search needs)
     (λ c. search needs)
-    (λ c. decimal-one (c .before .before .before .args .digits) (c .before .before .before .args .n) _ (c .before .before .before .args .at) (c .before .if1 .left) (c .if2 .taken))
+    (λ c. (decimal-one (c .before .before .before .args .digits) (c .before .before .before .args .n) _ (c .before .before .before .args .at) (c .before .if1 .left) (c .if2 .taken), omega arith))
     (λ c. search needs)
     (λ c κs. (omega (arith, c .before .before .before .before .pre), omega (arith, c .before .before .before .before .pre)))
     (λ c. search needs)
     (λ c. search needs)
-    (λ c. omega (arith, put-length _ _ _ _ _ (c .before .before .put-decimal .ensures), decimal-next (c .before .before .before .before .before .before .before .args .digits - 1) (c .before .before .before .before .before .before .before .args .n / 10) _ _ (c .before .before .before .before .before .before .before .args .at) _ (c .before .before .put-decimal .ensures), c .before .before .before .before .before .before .before .pre))
-    (λ c. omega (arith, decimal-next (c .before .before .before .before .before .before .before .args .digits - 1) (c .before .before .before .before .before .before .before .args .n / 10) _ _ (c .before .before .before .before .before .before .before .args .at) _ (c .before .before .put-decimal .ensures), c .before .before .before .before .before .before .before .pre))
-    (λ c. simp length-set (put-length _ _ _ _ _ (c .before .before .put-decimal .ensures)))
-    (λ c. decimal-more (c .before .before .before .before .before .before .before .args .digits) (c .before .before .before .before .before .before .before .args .n) _ (c .before .before .before .before .before .before .before .args .at) (c .before .before .before .before .before .if1 .left) (c .before .before .before .before .if2 .left) _ _ (c .before .before .put-decimal .ensures))
+    (λ c. omega (arith, put-length _ _ _ _ _ (c .before .before .put-decimal .ensures .0), c .before .before .put-decimal .ensures .1, c .before .before .before .before .before .before .before .pre))
+    (λ c. omega (arith, c .before .before .put-decimal .ensures .1, c .before .before .before .before .before .before .before .pre))
+    (λ c. simp length-set (put-length _ _ _ _ _ (c .before .before .put-decimal .ensures .0)))
+    (λ c. (decimal-more (c .before .before .before .before .before .before .before .args .digits) (c .before .before .before .before .before .before .before .args .n) _ (c .before .before .before .before .before .before .before .args .at) (c .before .before .before .before .before .if1 .left) (c .before .before .before .before .if2 .left) _ _ (c .before .before .put-decimal .ensures .0), omega (arith, c .before .before .put-decimal .ensures .1, c .before .before .before .before .before .if1 .left)))
