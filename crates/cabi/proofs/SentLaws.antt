@@ -9,14 +9,14 @@ use Rattle.format.specs.declared.Written.{Written}
 use Rattle.format.specs.declared.Written.the-variants.{Refused}
 use Rattle.format.specs.declared.Refusal.{Refusal}
 use Rattle.format.specs.Writer.{refusalNumber, Result, written}
-use Rattle.write.specs.Whole.{AllZero}
+use Rattle.write.specs.Whole.{cleared}
 use Rattle.cabi.specs.Number.{tooFew}
 use Rattle.cabi.specs.Sent.{Sent, codeOf, numberOf, sentOf, sent}
 
 module _ (s o w l : List ℕ) where
-  pub sent-none : length l < 1 → (z : List ℕ) → AllZero w z → record { code = tooFew; held = l; output = o; work = z } ≡ sent s o w l
-  unfolding sent
-  sent-none h z e = rw (lt-ltb (length l) 1 h, e .is)
+  pub sent-none : length l < 1 → (z : List ℕ) → z ≡ cleared w → record { code = tooFew; held = l; output = o; work = z } ≡ sent s o w l
+  unfolding sent cleared
+  sent-none h z e = rw (lt-ltb (length l) 1 h, e)
 
   -- what the writer answered
   pub sent-is : 1 ≤ length l → (x : Written) (p q : List ℕ) → record { answer = x; output = p; work = q } ≡ written s o w → (y : Written) → x ≡ y

@@ -14,6 +14,7 @@ mod LeafPut
 mod Header
 mod PutField
 mod PutLoop
+mod Clearing
 mod Top
 pub mod Described
 pub mod Answers

@@ -2,14 +2,12 @@
 -- programs meets it for some lists and is ruled out by it: one that answers Done and writes nothing (the output begins with the encoding); one that always
 -- writes `02 00`, the object with no fields (its bytes are the encoding of no other tree); one that leaves work numbers of its own choice (they are the
 -- sizes of the containers, and zero past them, or all zero at a refusal).
-use mathlib.Core.Path.{_≡_}
 use mathlib.Core.List.{List}
 use Prim.Native.Nat.{ℕ}
-use lib.ListN.{length}
 use Rattle.number.proofs.OneAnswer.{One, one}
 use Rattle.format.specs.declared.Refusal.{Refusal}
-use Rattle.format.specs.Writer.{refusalNumber, zeros, written}
-use Rattle.write.specs.Whole.{AllZero}
+use Rattle.format.specs.Writer.{refusalNumber, written}
+use Rattle.write.specs.Whole.{cleared}
 
 pub one-answer : (list output work : List ℕ) → One (written list output work)
 one-answer list output work = one (written list output work)
@@ -17,6 +15,5 @@ one-answer list output work = one (written list output work)
 pub refusal-number-one : (refusal : Refusal) → One (refusalNumber refusal)
 refusal-number-one refusal = one (refusalNumber refusal)
 
--- `AllZero` is the equation with zeros as many as there were numbers
-pub clear-one : (work a b : List ℕ) → AllZero work a → AllZero work b → a ≡ b
-clear-one work a b e f = one (zeros (length work)) a b (e .is) (f .is)
+pub clear-one : (work : List ℕ) → One (cleared work)
+clear-one work = one (cleared work)

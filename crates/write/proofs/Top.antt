@@ -2,13 +2,12 @@
 use Prim.Native.Nat.{ℕ, zero, suc, _+_, _-_, _*_, _≤_, _<_}
 use native.Mathlib.Omega.{arith}
 use native.Mathlib.Nat.{zero-add, sub-zero}
-use native.Mathlib.Numerals.{add-one}
 use mathlib.Core.Path.{_≡_, refl, sym, ap, _∙_}
 use mathlib.Core.Bool.{Bool, true, false, cond}
 use mathlib.Core.Option.{none}
 use mathlib.Core.List.{List, [], _∷_, _++_}
-use lib.ListN.{length, getD, drop, set, length-set, length-replicate, drop-of-length-le}
-use lib.Seq.{drop-cons, set-at, set-set, sets, sets-eq}
+use lib.ListN.{length, getD, drop, set, length-set, length-replicate}
+use lib.Seq.{set-set, sets, sets-eq}
 use lib.Dec.{ltb, leb}
 use borrow.Author.Tests.{lt-ltb, le-ltb, lt-leb, le-leb, ltb-true, ltb-false, leb-true, leb-false, eq-eqb, ne-eqb}
 use Rattle.number.proofs.ReadLaws.{Known, bytes-of}
@@ -21,38 +20,15 @@ use Rattle.format.specs.Tree.{Tree}
 use Rattle.format.specs.Encoding.{kindOf, payloadOf, encoding, sizesOf}
 use Rattle.format.specs.WriteList.{Frames, refused, framed, next, readFrames, only, readList}
 use Rattle.format.specs.Writer.{outcomeOf, outcomeAfter, outcome, zeros, resultOf, written}
-use Rattle.format.proofs.Lists.{append-nil}
 use Rattle.write.specs.declared.Measured.{Measured}
 use Rattle.write.specs.declared.Measured.the-variants as M
 use Rattle.write.specs.declared.Position.{Position}
 use Rattle.write.specs.Container.{typePart, namePart, packsOf}
 use Rattle.write.specs.Passes.{fieldMeasured, fieldWork, FieldAt, Lent, FieldGiven, FieldReady, FieldMakes}
-use Rattle.write.specs.Whole.{AllZero, result, decidedOf, idIn, writtenWithin}
+use Rattle.write.specs.Whole.{result, decidedOf, idIn, writtenWithin}
+use Rattle.write.proofs.Clearing.{AllZero}
 use Rattle.write.proofs.LoopLaws.{set-sets}
 use Rattle.write.proofs.PutLoop.{numbers-long}
-
--- ---- clearing
-
-zeros-cons : (n : ℕ) (l : List ℕ) → zeros n ++ (0 ∷ l) ≡ 0 ∷ (zeros n ++ l)
-zeros-cons zero l = refl
-zeros-cons (suc n) l = ap (λ (m : List ℕ). 0 ∷ m) (zeros-cons n l)
-
-pub record Cleared (w₀ w : List ℕ) (i : ℕ) : Type 0 where
-  pub is : w ≡ zeros i ++ drop i w₀
-
-pub clear-start : (w : List ℕ) → Cleared w w 0
-clear-start w = record { is = refl }
-
-pub clear-more : (w₀ w : List ℕ) (i : ℕ) → Cleared w₀ w i → i < length w₀ → Cleared w₀ (set w i 0) (i + 1)
-clear-more w₀ w i e h =
-    record { is = rw (e .is, drop-cons w₀ i 0 h, set-at (zeros i) (getD w₀ i 0) (drop (suc i) w₀) 0 i (length-replicate i 0), add-one i) (zeros-cons i (drop (suc i) w₀)) }
-
-pub clear-done : (w₀ w : List ℕ) (i : ℕ) → Cleared w₀ w i → i ≤ length w₀ → length w₀ ≤ i → AllZero w₀ w
-clear-done w₀ w i e l h = let z : i ≡ length w₀ = omega arith in record { is = rw (e .is, drop-of-length-le w₀ h, append-nil, z) }
-
--- what was as long is cleared alike
-pub zero-alike : (w v z : List ℕ) → AllZero v z → length v ≡ length w → AllZero w z
-zero-alike w v z e l = record { is = e .is ∙ rw l }
 
 drop-zeros : (n m : ℕ) → m ≤ n → drop m (zeros n) ≡ zeros (n - m)
 drop-zeros n zero h = rw (sub-zero n)

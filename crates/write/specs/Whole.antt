@@ -1,6 +1,5 @@
 -- The whole writer, with the depth that is left; and what the code of it answers.
 use Prim.Native.Nat.{ℕ, _+_}
-use mathlib.Core.Path.{_≡_}
 use mathlib.Core.List.{List}
 use mathlib.Core.Bool.{cond}
 use lib.ListN.{length}
@@ -13,9 +12,9 @@ use Rattle.format.specs.Writer.{Result, zeros, outcomeAfter, resultOf}
 use Rattle.write.specs.declared.Measured.{Measured}
 use Rattle.write.specs.declared.Measured.the-variants as M
 
--- z is as long as v, and all zero
-pub record AllZero (v z : List ℕ) : Type 0 where
-  pub is : z ≡ zeros (length v)
+-- work numbers after a refusal
+unfoldable pub cleared : List ℕ → List ℕ
+cleared work = zeros (length work)
 
 abbrev pub result : Written → List ℕ → List ℕ → Result
 result a o w = record { answer = a; output = o; work = w }

@@ -24,7 +24,7 @@ ghost use Rattle.format.specs.Writer.{written, refusalNumber};
 ghost use Rattle.write.specs.Container.{join, uniform, countPart, containerId, sizeBy, packed, typePart};
 ghost use Rattle.write.specs.Frames.{noFaults, allModes, noModes, isLong, isLow, isBlank, isNotText, isWide, writable, nameAt, usedAt, Stack, NamedAt, FrameAt, IsLeaf, leafFrameAt, startAt, bitsAt, finalId, endAt};
 ghost use Rattle.write.specs.Passes.{leafMeasured, LeafSmall, FieldAt, ContentsAt, Lent, LeafReady, LeafMakes, CanOpen, HasOpened, FieldReady, FieldMakes, ContentsReady, ContentsMakes};
-ghost use Rattle.write.specs.Whole.{AllZero, result, decidedOf, idIn, writtenWithin};
+ghost use Rattle.write.specs.Whole.{cleared, result, decidedOf, idIn, writtenWithin};
 
 // ---- what format's reading of a leaf or a name found
 
@@ -824,7 +824,7 @@ fn put_contents(
 
 // All zero, as a refusal leaves the work numbers.
 pub fn clear(work: &mut [u32])
-    ensures { λ r. ⌜ AllZero (now (work .entry)) (now (work .exit)) ⌝ }
+    ensures { λ r. ⌜ now (work .exit) ≡ cleared (now (work .entry)) ⌝ }
 {
     let mut i = 0;
     while i < work.len() {

@@ -5,7 +5,7 @@ use Prim.Native.Nat.{_-_, _≤_}
 use native.Mathlib.Omega.{arith}
 use mathlib.Core.Path.{_≡_}
 use lib.ListN.{length}
-use Rattle.write.proofs.Top.{Cleared, clear-start, clear-more, clear-done}
+use Rattle.write.proofs.Clearing.{Cleared, clear-start, clear-more, clear-done}
 
 ruleset laws = (clear-start, clear-more, clear-done, needs)
 
