@@ -13,6 +13,7 @@ use Rattle.format.specs.declared.Refusal.the-variants.{BadFrame}
 use Rattle.format.specs.declared.Written.{Written}
 use Rattle.format.specs.declared.Written.the-variants.{Done, Refused}
 use Rattle.format.specs.Encoding.{concat}
+use Rattle.write.specs.Whole.{cleared}
 use Rattle.format.specs.Writer.{refusalNumber, Outcome, refuse, wrote, outcome, Result, resultOf, written}
 use Rattle.format.specs.Program.{hexByte, decimal, wordRefused, wordAt, lineEnd, typed, mistyped, printed, programOf}
 use Rattle.hexadecimal.specs.declared.Typing.{Typing}
@@ -105,11 +106,11 @@ module _ (s o w text : List ℕ) (room : length o ≡ 65536) (numbers : length w
 -- ---- what was typed
 
 module _ (t : Typing) (l text o w : List ℕ) where
-  pub answer-mistyped : length text ≡ 131073 → (t .begun || t .wrong) ≡ true → (r : ℕ) (k : List ℕ)
+  pub answer-mistyped : length text ≡ 131073 → (t .begun || t .wrong) ≡ true → (r : ℕ) (k z : List ℕ) → z ≡ cleared w
       → record { next = r; text = k } ≡ put (wordRefused ++ decimal 2 2 ++ wordAt ++ decimal 20 (t .formed) ++ lineEnd) text 0
-      → record { answer = record { length = r; refused = true }; text = k; output = o; work = w } ≡ answered t l text o w
-  unfolding answered
-  answer-mistyped space h r k f = rw h (told-by (refuse BadFrame (t .formed)) text k o w r (omega (arith, refused-length BadFrame (t .formed))) f)
+      → record { answer = record { length = r; refused = true }; text = k; output = o; work = z } ≡ answered t l text o w
+  unfolding answered cleared
+  answer-mistyped space h r k z e f = rw (h, e) (told-by (refuse BadFrame (t .formed)) text k o (cleared w) r (omega (arith, refused-length BadFrame (t .formed))) f)
 
   take-min : (n : ℕ) → take (min n (length l)) l ≡ take n l
   take-min n = at (ltb n (length l)) refl

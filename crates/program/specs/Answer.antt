@@ -4,7 +4,7 @@ use Prim.Native.Nat.{ℕ}
 use mathlib.Core.Bool.{Bool, true, false, _||_, cond}
 use mathlib.Core.List.{List, _++_}
 use lib.ListN.{length, take, drop}
-use Rattle.format.specs.Writer.{Outcome, refuse, wrote, written}
+use Rattle.format.specs.Writer.{Outcome, refuse, wrote, zeros, written}
 use Rattle.format.specs.Program.{Typed, typed, mistyped, printed, programOf}
 use Rattle.hexadecimal.specs.declared.Typing.{Typing}
 use Rattle.program.specs.declared.Printed.{Printed}
@@ -32,10 +32,10 @@ abbrev pub told : Outcome → List ℕ → List ℕ → List ℕ → Answered
 told o text output work =
     afterwards (record { length = length (printed o); refused = isRefused o }) (printed o ++ drop (length (printed o)) text) output work
 
--- the writer is called on what is well typed alone
+-- the writer is called on what is well typed alone; a refusal zeroes all work numbers, one that comes before it too
 abbrev pub answeredOf : Typed → List ℕ → List ℕ → List ℕ → Answered
 answeredOf (typed list) text output work = told (programOf (typed list)) text (written list output work .output) (written list output work .work)
-answeredOf (mistyped n) text output work = told (programOf (mistyped n)) text output work
+answeredOf (mistyped n) text output work = told (programOf (mistyped n)) text output (zeros (length work))
 
 unfoldable pub answered : Typing → List ℕ → List ℕ → List ℕ → List ℕ → Answered
 answered t list text output work = answeredOf (typedOf t list) text output work

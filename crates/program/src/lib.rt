@@ -158,6 +158,7 @@ pub fn answer(
     ensures { λ r. ⌜ afterwards r (now (text .exit)) (now (out .exit)) (now (numbers .exit)) ≡ answered typing (now (list .entry)) (now (text .entry)) (now (out .entry)) (now (numbers .entry)) ⌝ }
 {
     if typing.begun | typing.wrong {
+        write::clear(numbers);
         let length = put_refused(2, typing.formed, text);
         return Printed {
             length: length,
@@ -193,14 +194,14 @@ pub enum Reading {
     Failed,
 }
 
-// Reads all of the input, in parts that go through `chunk`. A proved loop has to end, so it counts its turns down, from a number that no run
-// uses up.
+// Reads all of the input, in parts that go through `chunk`. A proved loop has to end, so it counts down how many bytes there may be, from
+// 2^64 - 1: as many as can be counted.
 fn read_all(chunk: &mut [u8], list: &mut [u8]) -> Reading
     ensures { λ r. ⌜ Heard r (now (list .entry)) (now (list .exit)) ⌝ }
 {
     let mut typing = hexadecimal::nothing();
-    let mut turns = u64::MAX;
-    while turns > 0 {
+    let mut left = u64::MAX;
+    while left > 0 {
         let got = libc::read(STDIN_FILENO, chunk);
         if got < 0 {
             return Reading::Failed;
@@ -209,8 +210,11 @@ fn read_all(chunk: &mut [u8], list: &mut [u8]) -> Reading
         if n == 0 {
             return Reading::Typed(typing);
         }
+        if left < (n as u64) {
+            return Reading::Failed;
+        }
         typing = hexadecimal::feed(&chunk[..n], typing, list);
-        turns -= 1;
+        left -= n as u64;
     }
     Reading::Failed
 }

@@ -7,6 +7,7 @@ use Rattle.program.proofs.answer.Lts as lts
 use Rattle.program.proofs.answer_to.Reads as answer-to-reads
 use Rattle.program.proofs.held.Reads as held-reads
 use Rattle.program.proofs.put_refused.Reads as put-refused-reads
+use Rattle.write.proofs.clear.Reads as clear-reads
 use Rattle.program.proofs.AnswerLaws.{answer-mistyped, held-length, answer-typed}
 
 pub answer-spec : {M : Type 1} → statement M
@@ -14,7 +15,8 @@ answer-spec =
     tie.close
     (tie.spec
     (λ c κs. search needs)
-    (λ c. answer-mistyped (c .before .before .before .before .args .typing) (c .before .before .before .before .args .list .now) _ _ _ (omega arith) (c .before .before .if1 .taken) _ _ (c .put-refused .ensures))
+    (λ c κs. search needs)
+    (λ c. answer-mistyped (c .before .before .before .before .before .before .args .typing) (c .before .before .before .before .before .before .args .list .now) _ _ _ (omega arith) (c .before .before .before .before .if1 .taken) _ _ _ (c .before .before .clear .ensures) (c .put-refused .ensures))
     (λ c κs. search needs)
     (λ c. held-length (c .before .before .before .before .before .args .typing) (c .before .before .before .before .before .args .list .now) (c .before .before .before .before .before .args .text .now) (c .before .before .before .before .before .args .out .now) (c .before .before .before .before .before .args .numbers .now) _ (c .before .held .ensures))
     (λ c κs. search needs)
