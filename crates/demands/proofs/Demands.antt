@@ -38,13 +38,13 @@ use Rattle.format.specs.Writer.{refusalNumber, zeros, written}
 use Rattle.format.specs.Program.{program}
 use Rattle.format.specs.Show.{Shown, ShownPayload}
 use Rattle.format.specs.Stepping.{fieldAt, placeAt, Agree, Event, stepsFrom, stepping, events, IsFirst}
-use Rattle.format.specs.Siblings.{Inside}
-use Rattle.format.specs.Views.{Seen}
+use Rattle.walk.specs.Siblings.{Inside}
+use Rattle.walk.specs.Views.{Seen}
 use Rattle.format.proofs.Spelling as spelling
 use Rattle.format.proofs.Walk as walk
-use Rattle.format.proofs.Siblings as siblings
-use Rattle.format.proofs.Views as views
-use Rattle.format.proofs.Bounds as bounds
+use Rattle.walk.proofs.Siblings as siblings
+use Rattle.walk.proofs.Views as views
+use Rattle.walk.proofs.Bounds as bounds
 use Rattle.float.proofs.Numbers as numbers
 use Rattle.spelling.specs.Flawed.{sumWhere}
 use Rattle.spelling.specs.FlawTable.{HasFlaw, FlawsTold}
@@ -59,16 +59,16 @@ use Rattle.program.proofs.InParts as programs
 use Rattle.read.proofs.AnyStep.{Stepped}
 use Rattle.read.proofs.AnyStep as steps
 use Rattle.write.specs.Describe.{listOf}
-use Rattle.write.specs.Refused.{Placed}
+use Rattle.refusals.specs.Refused.{Placed}
 use Rattle.write.proofs.Answers.{Wrote}
 use Rattle.write.proofs.Answers as answers
 use Rattle.write.proofs.Writable.{success}
 use Rattle.write.proofs.Writable as writable
-use Rattle.write.proofs.WrittenAs.{WrittenAs}
-use Rattle.write.proofs.WrittenAs as writtenAs
-use Rattle.write.proofs.RefusedPlaces as refusals
-use Rattle.write.proofs.FirstFaulty as faulty
-use Rattle.write.proofs.Refusals as frames
+use Rattle.refusals.proofs.WrittenAs.{WrittenAs}
+use Rattle.refusals.proofs.WrittenAs as writtenAs
+use Rattle.refusals.proofs.RefusedPlaces as refusals
+use Rattle.refusals.proofs.FirstFaulty as faulty
+use Rattle.refusals.proofs.Refusals as frames
 
 -- ---- 1. "Whatever bytes, modes, place or write list arrive, every public call ends, reads only what it was lent, and refuses what is bad by itself."
 -- That a call ends, stays inside its slices and has this answer for every input is what the prover shows of a function that has no `requires`. tests/contracts, a part of the
@@ -86,8 +86,8 @@ use Rattle.write.proofs.Refusals as frames
 --   ajuqvane_write, ajuqvane_varuint, ajuqvane_is_text, ajuqvane_are_equal, ajuqvane_float32_holds, ajuqvane_widen
 -- The leaves, and what the calls above share:
 --   number::read, length, put, read32, read64, minus_plus_one, ticks; text::is_text, are_equal; float::float32_holds, is_nan32, is_nan64, widen, narrow, of_integer;
---   format::known_of, kind_at, id_of, fixed_size, is_bare, no_faults, with_uniform, with_twin, is_blank, is_long, is_low, is_wide, is_not_text, sum_of, front_of, name_of,
---   meet_of, head_of; hexadecimal::character_of, nothing, feed; validate::stop_value; write::refusal_number, clear
+--   format::known_of, kind_at, id_of, fixed_size, is_bare, no_faults, with_uniform, with_twin, is_blank, is_long, is_low, is_wide, is_not_text, sum_of, front_of, name_of;
+--   format::meet_of, head_of; hexadecimal::character_of, nothing, feed; validate::stop_value; write::refusal_number, clear
 -- ajuqvane_write_list is the program: it reads, calls `hexadecimal::feed` and `program::answer`, and writes; no contract can say what is read or written.
 -- "A refused read writes nothing": none of the reading calls is lent anything to write to. The calls for C write their answer's numbers only (`told`, crates/cabi/specs/Reply.antt).
 

@@ -1,7 +1,6 @@
 pub mod Examples
 pub mod PinnedMasks
 pub mod PinnedWrites
-pub mod PinnedPlaces
 pub mod Lists
 pub mod Back
 pub mod KindLaws
@@ -34,9 +33,4 @@ pub mod TopCases
 pub mod Spelling
 pub mod Walk
 pub mod WalkExample
-pub mod PassedPlaces
-pub mod Siblings
-pub mod SiblingsExample
-pub mod Views
-pub mod Bounds
 pub mod OneAnswer

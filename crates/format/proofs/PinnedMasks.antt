@@ -90,8 +90,6 @@ stopping =
     ∷ stops 1 (of 2 0x1e00) ∷ stops 1 (of 3 0x1f0105)
     -- 4: at depth 32 a field may stand, at depth 33 none
     ∷ format 1024 (under 30 0x01 []) ∷ stops 4 (under 31 0x01 [])
-    -- 8: of 65,536 bytes there is none; of 65,537 it comes before all else
-    ∷ padding 4096 (0x01 ∷ zeros 65535) ∷ stops 8 (0x01 ∷ zeros 65536) ∷ stops 8 (0x15 ∷ zeros 65536)
     -- 2048: 03 with no field; 05 with count 0, also where that is written long, or of 01, 0C, 0D
     ∷ stops 2048 (of 3 0x030108) ∷ stops 2048 (of 4 0x05020008) ∷ stops 2048 (of 5 0x0503800008)
     ∷ stops 2048 (of 4 0x05020101) ∷ stops 2048 (of 4 0x0502010c) ∷ stops 2048 (of 4 0x0502010d)
@@ -159,3 +157,8 @@ pinned = kinds ++ stopping ++ flaws
 pub masks-pinned : map computed pinned ≡ pinned
 unfolding varUInt encoded isText due equal holds known isBare isUniform isUniformArray readVarUInt fixed isEmpty twins front head payload read mask
 masks-pinned = refl
+
+-- 8: of 65,536 bytes there is none; of 65,537 it comes before all else, whatever is asked
+pub length-pinned : map (λ (x : ℕ × List ℕ). mask (x .0) (x .1)) ((7, 0x01 ∷ zeros 65535) ∷ (7, 0x01 ∷ zeros 65536) ∷ (0, 0x15 ∷ zeros 65536) ∷ []) ≡ 4096 ∷ 8 ∷ 8 ∷ []
+unfolding varUInt encoded isText due equal holds known isBare isUniform isUniformArray readVarUInt fixed isEmpty twins front head payload read mask
+length-pinned = refl

@@ -20,7 +20,7 @@ use Rattle.format.specs.Payload.{payload}
 use Rattle.format.specs.Encoding.{encoding}
 use Rattle.format.specs.WriteList.{readFrames, readList}
 use Rattle.format.specs.Writer.{refusalNumber, Outcome, refuse, wrote, outcome, Result, written}
-use Rattle.format.specs.Program.{typed, bytesTyped, programOf, program}
+use Rattle.format.specs.Program.{bytesTyped, program}
 
 -- a refusal's number and place; or 0, the encoding's length and the sizes of its containers
 abbrev told : Outcome → List ℕ
@@ -70,9 +70,8 @@ each =
     ∷ refused 7 0 (of 1 0x00) ∷ refused 8 1 (of 2 0x0101) ∷ refused 8 2 (of 3 0x040001)
     -- 9: a list of 65,537 bytes; one of 65,536 is read
     ∷ refused 9 0 (times 65537 0x00) ∷ refused 7 0 (times 65536 0x00)
-    -- 10 and 11: longer than the output, or than 65,536 bytes where the output is larger (65,527 and 65,528 bytes in a binary in an array)
+    -- 10 and 11 (an encoding of more than 65,536 bytes: crates/demands/proofs/Lent.antt, with what the program lends)
     ∷ lent 100 0 (of 2 0x0400) (10 ∷ 0 ∷ []) ∷ lent 100 1 (of 4 0x04040000) (10 ∷ 0 ∷ []) ∷ lent 1 0 (of 2 0x0805) (11 ∷ 0 ∷ []) ∷ lent 2 0 (of 2 0x0805) (0 ∷ 2 ∷ [])
-    ∷ lent 70000 1 (of 5 0x0406c0fff7 ++ times 65528 0x00) (0 ∷ 65536 ∷ 65532 ∷ []) ∷ lent 70000 1 (of 5 0x0406c0fff8 ++ times 65529 0x00) (11 ∷ 0 ∷ [])
     ∷ []
 
 -- ---- each order of two
@@ -182,14 +181,3 @@ runs =
 pub program-pinned : map ran runs ≡ runs
 unfolding varUInt encoded isText due equal known isBare isUniform isUniformArray readVarUInt fixed isEmpty twins payload readFrames readList encoding outcome bytesTyped program
 program-pinned = refl
-
--- it lends 65,536 bytes of output (a binary of 65,532 bytes and one of 65,528 in an array), and a list of 65,537 bytes is too long (how many work numbers it lends is
--- computed on the page of demands' side, crates/demands/proofs/Lent.antt)
-abbrev lengthTold : Outcome → List ℕ
-lengthTold (refuse n p) = refusalNumber n ∷ p ∷ []
-lengthTold (wrote e z) = 0 ∷ length e ∷ length z ∷ []
-
-pub program-lends : map (λ l. lengthTold (programOf (typed l))) ((of 4 0x06c0fffc ++ times 65532 0x00) ∷ (of 5 0x0406c0fff8 ++ times 65529 0x00) ∷ times 65537 0x00 ∷ [])
-    ≡ (0 ∷ 65536 ∷ 0 ∷ []) ∷ (11 ∷ 0 ∷ []) ∷ (9 ∷ 0 ∷ []) ∷ []
-unfolding varUInt encoded isText due equal known isBare isUniform isUniformArray readVarUInt fixed isEmpty twins payload readFrames readList encoding outcome
-program-lends = refl

@@ -12,8 +12,6 @@ pub mod Contents
 pub mod Values
 pub mod Show
 pub mod Stepping
-pub mod Siblings
-pub mod Views
 pub mod WriteList
 pub mod Writer
 pub mod Program

@@ -26,7 +26,7 @@ use Rattle.format.proofs.Lists.{append-nil}
 use Rattle.format.proofs.KindLaws.{known-rt}
 use Rattle.format.proofs.Local.{bind-got}
 use Rattle.format.proofs.HeadParts.{local-head, front-takes, head-body}
-use Rattle.format.proofs.PassedPlaces.{slice-part}
+use Rattle.walk.proofs.PassedPlaces.{slice-part}
 use Rattle.format.proofs.Parts.{Part, part-to, part-is, part-left, part-right, part-slice}
 use Rattle.read.specs.declared.Opened.the-variants as O
 use Rattle.read.proofs.OpenLaws.{Sound, sound-fields, sound-items, check-got}

@@ -4,7 +4,7 @@ mod Flaws
 mod NameCases
 mod LeafCases
 mod StackCases
-mod FrameCases
+pub mod FrameCases
 mod ContainerLaws
 mod Used
 mod FieldCases
@@ -23,10 +23,3 @@ pub mod Describable
 pub mod ListLength
 pub mod Writable
 pub mod Beyond
-mod FramesLocal
-mod FrameParts
-pub mod Refusals
-pub mod RefusedPlaces
-mod OpenLists
-pub mod FirstFaulty
-pub mod WrittenAs

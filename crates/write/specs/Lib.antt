@@ -3,4 +3,3 @@ pub mod Frames
 pub mod Passes
 pub mod Whole
 pub mod Describe
-pub mod Refused

@@ -8,20 +8,20 @@ use lib.ListN.{length}
 use lib.Seq.{slice}
 use Rattle.number.specs.BigEndian.{All}
 use Rattle.number.specs.VarUInt.{varUInt}
 use Rattle.format.specs.declared.Kind.{Kind}
 use Rattle.format.specs.declared.Mark.the-variants.{SharedByFields, SharedByItems}
 use Rattle.format.specs.declared.Place.{Place}
 use Rattle.format.specs.declared.Part.the-variants as P
 use Rattle.format.specs.Kinds.{typeByte, hasSize}
 use Rattle.format.specs.Parse.{readVarUInt}
 use Rattle.format.specs.Tree.{Node, atom, array, object}
 use Rattle.format.specs.Payload.{Payload, leaf, fields, sharedFields, items, sharedItems, payload}
 use Rattle.format.specs.Reader.{Standing, Layout, kindsIn}
 use Rattle.format.specs.Places.{taken, part, view}
 use Rattle.format.specs.Show.{Reads, Viewed}
 use Rattle.format.specs.Stepping.{fieldsOf, Reached}
 use Rattle.format.specs.Contents.{contentsStart}
-use Rattle.format.specs.Siblings.{fieldIn}
+use Rattle.walk.specs.Siblings.{fieldIn}
 
 -- what stands between a container's size and its contents, by how its fields stand: their count, and the kind that they share. ks are their kinds
 abbrev pub Between : Payload → List Kind → List ℕ → Type 0

@@ -16,7 +16,7 @@ use Rattle.format.specs.Tree.{Tree}
 use Rattle.format.specs.Encoding.{encoding, sizesOf}
 use Rattle.format.specs.WriteList.{Frames, refused, framed, readList}
 use Rattle.format.specs.Writer.{refusalNumber, refuse, wrote, outcome, outcomeAfter, resultOf, written}
-use Rattle.write.proofs.OpenLists.{leftOf, list-open, list-complete}
+use Rattle.refusals.proofs.OpenLists.{leftOf, list-open, list-complete}
 
 module _ (output work : List ℕ) where
   -- a list that is refused with 1 was read so

@@ -17,9 +17,9 @@ use Rattle.format.specs.declared.Refusal.the-variants.{ListEnds, BadFrame, TooD
 use Rattle.format.specs.Kinds.{known}
 use Rattle.format.specs.Payload.{payload}
 use Rattle.format.specs.WriteList.{Frames, refused, framed, next, isWritable, frameKind, frameName, untilClose, FrameReader, framePayload, frame, readFrames}
 use Rattle.write.proofs.FrameCases.{never, next-got}
-use Rattle.write.proofs.FramesLocal.{next-refused, LocalFrames, OfFrame, Verdict, Judges, here}
-use Rattle.write.proofs.FrameParts.{carried, name-got, name-refused, payload-got, payload-refused}
+use Rattle.refusals.proofs.FramesLocal.{next-refused, LocalFrames, OfFrame, Verdict, Judges, here}
+use Rattle.refusals.proofs.FrameParts.{carried, name-got, name-refused, payload-got, payload-refused}
 
 -- ---- a frame
 

@@ -19,10 +19,10 @@ use Rattle.format.specs.Encoding.{encoding, sizesOf}
 use Rattle.format.specs.WriteList.{Frames, refused, framed, next, readFrames, only, readList}
 use Rattle.format.specs.Writer.{refuse, wrote, outcome, outcomeAfter, resultOf, written}
 use Rattle.format.proofs.Lists.{append-nil}
-use Rattle.write.specs.Refused.{AtFrame, BehindTop, Placed}
+use Rattle.refusals.specs.Refused.{AtFrame, BehindTop, Placed}
 use Rattle.write.proofs.FrameCases.{never}
-use Rattle.write.proofs.FramesLocal.{next-refused, OfFrame, Verdict}
-use Rattle.write.proofs.Refusals.{frames-local, frames-judge}
+use Rattle.refusals.proofs.FramesLocal.{next-refused, OfFrame, Verdict}
+use Rattle.refusals.proofs.Refusals.{frames-local, frames-judge}
 
 -- ---- the whole list
 

@@ -4,16 +4,16 @@ use mathlib.Core.List.{List, [], _∷_}
 use Prim.Native.Nat.{ℕ}
 use Rattle.number.specs.VarUInt.{varUInt}
 use Rattle.text.specs.Utf8.{isText, due}
 use Rattle.format.specs.declared.Place.{Place}
 use Rattle.format.specs.declared.Part.the-variants.{At}
 use Rattle.format.specs.Kinds.{known, isBare, hasSize}
 use Rattle.format.specs.Parse.{readVarUInt, fixed}
 use Rattle.format.specs.Names.{isEmpty}
 use Rattle.format.specs.Payload.{front, head, payload}
 use Rattle.format.specs.Places.{check, meet, step, part, view}
 use Rattle.format.specs.Contents.{contentsStart}
 use Rattle.format.specs.Stepping.{ranges}
-use Rattle.format.specs.Siblings.{placesIn}
+use Rattle.walk.specs.Siblings.{placesIn}
 
 abbrev alice : List ℕ
 alice = 0x02 ∷ 0x12 ∷ 0xc7 ∷ 0x04 ∷ 0x6e ∷ 0x61 ∷ 0x6d ∷ 0x65 ∷ 0x05 ∷ 0x41 ∷ 0x6c ∷ 0x69 ∷ 0x63 ∷ 0x65 ∷ 0xc8 ∷ 0x03 ∷ 0x61 ∷ 0x67 ∷ 0x65 ∷ 0x1e ∷ []

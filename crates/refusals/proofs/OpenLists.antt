@@ -16,10 +16,10 @@ use Rattle.format.specs.Tree.{array, object, Tree}
 use Rattle.format.specs.Payload.{Payload, leaf, fields, sharedFields, items, sharedItems, payload}
 use Rattle.format.specs.WriteList.{Frames, refused, framed, next, frameKind, frameName, leafFound, untilClose, FrameReader, framePayload, frame, readFrames, only, readList}
 use Rattle.format.proofs.Lists.{append-nil}
 use Rattle.write.proofs.FrameCases.{never, next-got}
-use Rattle.write.proofs.FramesLocal.{next-refused, LocalFrames, Judges, until-got, until-refused}
-use Rattle.write.proofs.FrameParts.{name-got, name-refused, leaf-refused}
-use Rattle.write.proofs.Refusals.{kind-got, kind-refused, frames-local, frames-judge}
+use Rattle.refusals.proofs.FramesLocal.{next-refused, LocalFrames, Judges, until-got, until-refused}
+use Rattle.refusals.proofs.FrameParts.{name-got, name-refused, leaf-refused}
+use Rattle.refusals.proofs.Refusals.{kind-got, kind-refused, frames-local, frames-judge}
 
 -- ---- how much of the list is left, read or refused
 

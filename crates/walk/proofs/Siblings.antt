@@ -8,27 +8,27 @@ use mathlib.Core.List.{List, [], _∷_, map}
 use lib.ListN.{length}
 use lib.Seq.{slice-empty}
 use Rattle.number.specs.BigEndian.{All}
 use Rattle.format.specs.declared.Kind.{Kind}
 use Rattle.format.specs.declared.Place.{Place}
 use Rattle.format.specs.declared.After.{After}
 use Rattle.format.specs.declared.After.the-variants.{Start, Last}
 use Rattle.format.specs.declared.Step.the-variants.{WrongKind}
 use Rattle.format.specs.declared.Top.the-variants as T
 use Rattle.format.specs.Limits.{depthLimit}
 use Rattle.format.specs.Tree.{Node, atom, array, object}
 use Rattle.format.specs.Payload.{Payload, payload}
 use Rattle.format.specs.Reader.{Standing, Named, Layout}
 use Rattle.format.specs.Mask.{mask, boundsOnly}
 use Rattle.format.specs.Places.{top, step}
 use Rattle.format.specs.Show.{Walk, ShownFields, ShownNode, Shown, unnamed}
 use Rattle.format.specs.Stepping.{nth, fieldsOf, Reached, onward, fieldAt, stepTo, placeAt, Agree}
 use Rattle.format.specs.Contents.{contentsStart}
-use Rattle.format.specs.Siblings.{placesFrom, placesIn, fieldIn, fieldCount, countIn, Inside, InTurn}
+use Rattle.walk.specs.Siblings.{placesFrom, placesIn, fieldIn, fieldCount, countIn, Inside, InTurn}
 use Rattle.format.proofs.Lists.{all-of}
 use Rattle.format.proofs.Steps.{walk-few}
 use Rattle.format.proofs.WalkFacts.{walk-each, walk-ranges, walk-fills, walk-apart}
 use Rattle.format.proofs.Walk.{every-field-shown, every-field-reached}
-use Rattle.format.proofs.PassedPlaces.{check-passed, wrong-leaf}
+use Rattle.walk.proofs.PassedPlaces.{check-passed, wrong-leaf}
 
 -- ---- a walk's places are those that steps meet
 

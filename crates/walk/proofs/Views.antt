@@ -13,38 +13,38 @@ use Rattle.number.specs.VarUInt.{varUInt}
 use Rattle.number.specs.declared.VarUInt.{VarUInt}
 use Rattle.number.specs.declared.VarUInt.the-variants.{Cut, Whole}
 use Rattle.number.proofs.VarUIntLaws.{var-range, var-local}
 use Rattle.format.specs.declared.Kind.{Kind}
 use Rattle.format.specs.declared.Kind.the-variants.{Object, UniformObject, Array, UniformArray}
 use Rattle.format.specs.declared.Mark.the-variants.{SharedByFields, SharedByItems}
 use Rattle.format.specs.declared.Stop.{Stop}
 use Rattle.format.specs.declared.Place.{Place}
 use Rattle.format.specs.declared.After.{After}
 use Rattle.format.specs.declared.After.the-variants.{Start}
 use Rattle.format.specs.declared.Step.{Step}
 use Rattle.format.specs.declared.Step.the-variants.{Field, NoMore, WrongKind}
 use Rattle.format.specs.declared.Step.the-variants as Stepped
 use Rattle.format.specs.declared.Checked.the-variants as C
 use Rattle.format.specs.declared.Part.the-variants as P
 use Rattle.format.specs.declared.Top.the-variants as T
 use Rattle.format.specs.Kinds.{id, known, hasSize, typeByte}
 use Rattle.format.specs.Parse.{Flaw, long, Out, fault, got, number, readVarUInt}
 use Rattle.format.specs.Tree.{Node, atom, array, object}
 use Rattle.format.specs.Payload.{Payload, leaf, fields, sharedFields, items, sharedItems, payload, Head}
 use Rattle.format.specs.Reader.{Standing, Named, Layout, kindsIn}
 use Rattle.format.specs.Mask.{mask, boundsOnly}
 use Rattle.format.specs.Places.{check, checkedOf, checked, top, step, nameIn, nameView, taken, sizeLength, partOf, part, viewOf, view}
 use Rattle.format.specs.Show.{Reads, Opens, ShownFields, ShownNode, Shown, unnamed}
 use Rattle.format.specs.Stepping.{placeAt}
-use Rattle.format.specs.Views.{Between, ContainerView, NodeView, FieldView, Seen}
+use Rattle.walk.specs.Views.{Between, ContainerView, NodeView, FieldView, Seen}
 use Rattle.format.proofs.Lists.{append-nil}
 use Rattle.format.proofs.Back.{never}
 use Rattle.format.proofs.KindLaws.{known-rt}
 use Rattle.format.proofs.Local.{raise-got}
 use Rattle.format.proofs.Parts.{part-is, part-right, part-slice, slice-join}
 use Rattle.format.proofs.ReadPlaces.{size-le}
 use Rattle.format.proofs.Steps.{walk-few}
-use Rattle.format.proofs.PassedPlaces.{check-passed, slice-part}
-use Rattle.format.proofs.Siblings.{reached}
+use Rattle.walk.proofs.PassedPlaces.{check-passed, slice-part}
+use Rattle.walk.proofs.Siblings.{reached}
 
 -- ---- any payload and any place, forged or not
 

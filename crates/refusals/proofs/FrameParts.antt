@@ -21,8 +21,8 @@ use Rattle.format.specs.WriteList.{Frames, refused, framed, nameFound, frameNam
 use Rattle.format.proofs.Lists.{append-nil}
 use Rattle.format.proofs.Local.{bind-got, with-put, Local, local-bind, local-raise}
 use Rattle.format.proofs.HeadParts.{local-text, local-head}
 use Rattle.write.proofs.FrameCases.{never, next-got}
-use Rattle.write.proofs.FramesLocal.{next-refused, LocalFrames, OfFrame, Judges, until-got, until-refused}
+use Rattle.refusals.proofs.FramesLocal.{next-refused, LocalFrames, OfFrame, Judges, until-got, until-refused}
 
 -- a refusal that carries the frame f
 pub carried : {A : Type 0} {f r : List ℕ} {n : Refusal} (m : Refusal) → OfFrame m → _≡_ {A = Frames A} (refused m f) (refused n r) → OfFrame n × (f ≡ r)

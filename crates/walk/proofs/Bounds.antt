@@ -7,27 +7,27 @@ use mathlib.Core.List.{List, [], _∷_}
 use lib.ListN.{length}
 use lib.Seq.{slice}
 use Rattle.text.specs.Equal.{equal}
 use Rattle.format.specs.declared.Kind.{Kind}
 use Rattle.format.specs.declared.Form.{Form}
 use Rattle.format.specs.declared.Form.the-variants as Fo
 use Rattle.format.specs.declared.Place.{Place}
 use Rattle.format.specs.declared.After.{After}
 use Rattle.format.specs.declared.After.the-variants.{Start, Last}
 use Rattle.format.specs.declared.Step.{Step}
 use Rattle.format.specs.declared.Step.the-variants.{Field, NoMore, WrongKind, Fault}
 use Rattle.format.specs.declared.Found.{Found}
 use Rattle.format.specs.declared.Found.the-variants as F
 use Rattle.format.specs.Parse.{Flaw, Out, fault, got, withFlaws, bind, fill}
 use Rattle.format.specs.Payload.{front, head}
 use Rattle.format.specs.Reader.{contents, readNode, read}
 use Rattle.format.specs.Places.{step, lookAt, lookFrom}
 use Rattle.format.specs.Stepping.{Event, eventsAt, stepsFrom}
-use Rattle.format.specs.Siblings.{placesAt, placesFrom, placesIn}
+use Rattle.walk.specs.Siblings.{placesAt, placesFrom, placesIn}
 use Rattle.format.proofs.Back.{never}
 use Rattle.format.proofs.Local.{bind-got, whole-got}
 use Rattle.format.proofs.HeadParts.{Full}
 use Rattle.format.proofs.FieldBytes.{Takes, field-takes}
-use Rattle.format.proofs.PassedPlaces.{behind, step-onward}
+use Rattle.walk.proofs.PassedPlaces.{behind, step-onward}
 
 -- ---- fields that fill a part: a reader that uses up a byte at least where it reads
 

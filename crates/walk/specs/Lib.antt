@@ -1,0 +1,2 @@
+pub mod Siblings
+pub mod Views
