@@ -56,6 +56,8 @@ use Rattle.hexadecimal.specs.Typing.{start}
 use Rattle.program.specs.Answer.{answered}
 use Rattle.program.specs.Input.{fedParts, joined}
 use Rattle.program.proofs.InParts as programs
+use Rattle.cabi.specs.Sent.{sent}
+use Rattle.cabi.proofs.Refusals as calls
 use Rattle.read.proofs.AnyStep.{Stepped}
 use Rattle.read.proofs.AnyStep as steps
 use Rattle.write.specs.Describe.{listOf}
@@ -95,6 +97,11 @@ use Rattle.refusals.proofs.Refusals as frames
 pub refused-leaves : (list output work : List ℕ) (r : Refusal) (p : ℕ) → written list output work .answer ≡ Refused r p
     → (written list output work .output ≡ output) × (written list output work .work ≡ zeros (length work))
 refused-leaves = answers.refused-leaves
+
+-- 1. and so for C, whenever the answer is not 0, also where no number is lent for it
+pub refused-call-leaves : (list output work answer : List ℕ) → (sent list output work answer .code ≡ 0 → ⊥)
+    → (sent list output work answer .output ≡ output) × (sent list output work answer .work ≡ zeros (length work))
+refused-call-leaves = calls.refused-leaves
 
 -- 1. its place: the list's length for 1; 0 for 9, 10 and 11; otherwise the first byte of a frame, and no frame before it is faulty
 pub refusal-placed : (list output work : List ℕ) (r : Refusal) (p : ℕ) → written list output work .answer ≡ Refused r p → Placed r p list output work
