@@ -6,11 +6,11 @@ use Rattle.text.specs.Equal.{equal}
 use Rattle.text.specs.Utf8.{isText}
 use Rattle.float.specs.Rule.{holds}
 use Rattle.float.specs.Width.{widen}
-use Rattle.format.specs.declared.Place.{Place}
-use Rattle.format.specs.declared.After.{After}
+use Rattle.places.specs.declared.Place.{Place}
+use Rattle.places.specs.declared.After.{After}
 use Rattle.format.specs.Mask.{mask}
-use Rattle.format.specs.Places.{checked, top, step, part, lookup}
-use Rattle.format.specs.Values.{double, signed, unsigned, ticks}
+use Rattle.places.specs.Places.{checked, top, step, part, lookup}
+use Rattle.places.specs.Values.{double, signed, unsigned, ticks}
 use Rattle.cabi.specs.Number.{truth, varuint}
 use Rattle.cabi.specs.Sent.{sent}
 use Rattle.cabi.specs.Reply.{placeOf, afterOf, checkedReply, topReply, stepReply, partReply, foundReply, doubleReply, signedReply, unsignedReply, ticksReply, told}

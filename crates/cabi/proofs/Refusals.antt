@@ -5,7 +5,7 @@ use mathlib.Core.Bool.{Bool, true, false, cond}
 use mathlib.Core.List.{List}
 use lib.ListN.{length}
 use lib.Dec.{ltb}
-use Rattle.format.specs.Writer.{Outcome, refuse, wrote, outcome, zeros, resultOf, written}
+use Rattle.frames.specs.Writer.{Outcome, refuse, wrote, outcome, zeros, resultOf, written}
 use Rattle.cabi.specs.Number.{tooFew}
 use Rattle.cabi.specs.Sent.{Sent, sentOf, sent}
 

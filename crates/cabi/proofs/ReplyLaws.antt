@@ -14,9 +14,9 @@ use mir.Val.{Fits, SFits, toZ, ofZ}
 use mir.ValLaws.{toZ-ofZ}
 use borrow.Author.Tests.{lt-ltb, le-ltb, ltb-true, eq-eqb, ne-eqb}
 use Rattle.number.specs.Signed.{toTwos}
-use Rattle.format.specs.declared.Place.{Place}
-use Rattle.format.specs.declared.After.{After}
-use Rattle.format.specs.declared.After.the-variants.{Start, Last}
+use Rattle.places.specs.declared.Place.{Place}
+use Rattle.places.specs.declared.After.{After}
+use Rattle.places.specs.declared.After.the-variants.{Start, Last}
 use Rattle.cabi.specs.Number.{tooFew, Afterwards, afterwards}
 use Rattle.cabi.specs.Reply.{Reply, told, placeOf, afterOf}
 

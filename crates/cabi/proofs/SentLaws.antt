@@ -5,10 +5,10 @@ use mathlib.Core.List.{List, [], _∷_}
 use lib.ListN.{length}
 use lib.Seq.{sets}
 use borrow.Author.Tests.{lt-ltb, le-ltb}
-use Rattle.format.specs.declared.Written.{Written}
-use Rattle.format.specs.declared.Written.the-variants.{Refused}
-use Rattle.format.specs.declared.Refusal.{Refusal}
-use Rattle.format.specs.Writer.{refusalNumber, Result, written}
+use Rattle.frames.specs.declared.Written.{Written}
+use Rattle.frames.specs.declared.Written.the-variants.{Refused}
+use Rattle.frames.specs.declared.Refusal.{Refusal}
+use Rattle.frames.specs.Writer.{refusalNumber, Result, written}
 use Rattle.write.specs.Whole.{cleared}
 use Rattle.cabi.specs.Number.{tooFew}
 use Rattle.cabi.specs.Sent.{Sent, codeOf, numberOf, sentOf, sent}

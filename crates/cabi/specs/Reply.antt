@@ -6,27 +6,27 @@ use lib.ListN.{length}
 use lib.Seq.{sets}
 use lib.Dec.{eqb, ltb}
 use Rattle.number.specs.Signed.{toTwos}
-use Rattle.format.specs.declared.Place.{Place}
-use Rattle.format.specs.declared.After.{After}
-use Rattle.format.specs.declared.After.the-variants.{Start, Last}
-use Rattle.format.specs.declared.Checked.{Checked}
-use Rattle.format.specs.declared.Checked.the-variants as C
-use Rattle.format.specs.declared.Top.{Top}
-use Rattle.format.specs.declared.Top.the-variants as T
-use Rattle.format.specs.declared.Step.{Step}
-use Rattle.format.specs.declared.Step.the-variants as S
-use Rattle.format.specs.declared.Part.{Part}
-use Rattle.format.specs.declared.Part.the-variants as P
-use Rattle.format.specs.declared.Found.{Found}
-use Rattle.format.specs.declared.Found.the-variants as F
-use Rattle.format.specs.declared.Double.{Double}
-use Rattle.format.specs.declared.Double.the-variants as D
-use Rattle.format.specs.declared.Signed.{Signed}
-use Rattle.format.specs.declared.Signed.the-variants as I
-use Rattle.format.specs.declared.Unsigned.{Unsigned}
-use Rattle.format.specs.declared.Unsigned.the-variants as U
-use Rattle.format.specs.declared.Ticks.{Ticks}
-use Rattle.format.specs.declared.Ticks.the-variants as K
+use Rattle.places.specs.declared.Place.{Place}
+use Rattle.places.specs.declared.After.{After}
+use Rattle.places.specs.declared.After.the-variants.{Start, Last}
+use Rattle.places.specs.declared.Checked.{Checked}
+use Rattle.places.specs.declared.Checked.the-variants as C
+use Rattle.places.specs.declared.Top.{Top}
+use Rattle.places.specs.declared.Top.the-variants as T
+use Rattle.places.specs.declared.Step.{Step}
+use Rattle.places.specs.declared.Step.the-variants as S
+use Rattle.places.specs.declared.Part.{Part}
+use Rattle.places.specs.declared.Part.the-variants as P
+use Rattle.places.specs.declared.Found.{Found}
+use Rattle.places.specs.declared.Found.the-variants as F
+use Rattle.places.specs.declared.Double.{Double}
+use Rattle.places.specs.declared.Double.the-variants as D
+use Rattle.places.specs.declared.Signed.{Signed}
+use Rattle.places.specs.declared.Signed.the-variants as I
+use Rattle.places.specs.declared.Unsigned.{Unsigned}
+use Rattle.places.specs.declared.Unsigned.the-variants as U
+use Rattle.places.specs.declared.Ticks.{Ticks}
+use Rattle.places.specs.declared.Ticks.the-variants as K
 use Rattle.format.specs.Mask.{stopValue}
 use Rattle.cabi.specs.Number.{tooFew, Afterwards, afterwards}
 

@@ -5,9 +5,9 @@ use mathlib.Core.List.{List, [], _∷_}
 use lib.ListN.{length}
 use lib.Seq.{sets}
 use lib.Dec.{ltb}
-use Rattle.format.specs.declared.Written.{Written}
-use Rattle.format.specs.declared.Written.the-variants.{Done, Refused}
-use Rattle.format.specs.Writer.{refusalNumber, Result, zeros, written}
+use Rattle.frames.specs.declared.Written.{Written}
+use Rattle.frames.specs.declared.Written.the-variants.{Done, Refused}
+use Rattle.frames.specs.Writer.{refusalNumber, Result, zeros, written}
 use Rattle.cabi.specs.Number.{tooFew}
 
 pub record Sent : Type 0 where

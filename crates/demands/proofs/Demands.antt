@@ -15,36 +15,36 @@ use Rattle.format.specs.declared.Kind.{Kind}
 use Rattle.format.specs.declared.Form.the-variants as Fo
 use Rattle.format.specs.declared.Stop.{Stop}
 use Rattle.format.specs.declared.Stop.the-variants.{TooLong}
-use Rattle.format.specs.declared.Place.{Place}
-use Rattle.format.specs.declared.After.{After}
-use Rattle.format.specs.declared.After.the-variants.{Start}
-use Rattle.format.specs.declared.Checked.the-variants as C
-use Rattle.format.specs.declared.Part.the-variants as P
-use Rattle.format.specs.declared.Step.the-variants as S
-use Rattle.format.specs.declared.Found.the-variants as F
-use Rattle.format.specs.declared.Top.the-variants as T
-use Rattle.format.specs.declared.Refusal.{Refusal}
-use Rattle.format.specs.declared.Refusal.the-variants.{ListEnds}
-use Rattle.format.specs.declared.Written.the-variants.{Done, Refused}
+use Rattle.places.specs.declared.Place.{Place}
+use Rattle.places.specs.declared.After.{After}
+use Rattle.places.specs.declared.After.the-variants.{Start}
+use Rattle.places.specs.declared.Checked.the-variants as C
+use Rattle.places.specs.declared.Part.the-variants as P
+use Rattle.places.specs.declared.Step.the-variants as S
+use Rattle.places.specs.declared.Found.the-variants as F
+use Rattle.places.specs.declared.Top.the-variants as T
+use Rattle.frames.specs.declared.Refusal.{Refusal}
+use Rattle.frames.specs.declared.Refusal.the-variants.{ListEnds}
+use Rattle.frames.specs.declared.Written.the-variants.{Done, Refused}
 use Rattle.format.specs.Limits.{depthLimit, lengthLimit}
 use Rattle.format.specs.Parse.{Flaw, long, fill}
 use Rattle.format.specs.Tree.{Tree, object}
 use Rattle.format.specs.Encoding.{encoding, sizesOf, WithinLimits}
 use Rattle.format.specs.Reader.{Standing, Named, Layout, read, treeOf}
 use Rattle.format.specs.Mask.{stopValue, flaws, has, sumOf, paddingOf, mask, boundsOnly, strict}
-use Rattle.format.specs.Places.{checked, top, step, nameView, part, view, lookup, lookFrom}
-use Rattle.format.specs.WriteList.{framed, readList, readFrames, untilClose}
-use Rattle.format.specs.Writer.{refusalNumber, zeros, written}
-use Rattle.format.specs.Program.{program}
-use Rattle.format.specs.Show.{Shown, ShownPayload}
-use Rattle.format.specs.Stepping.{fieldAt, placeAt, Agree, Event, stepsFrom, stepping, events, IsFirst}
-use Rattle.walk.specs.Siblings.{Inside}
-use Rattle.walk.specs.Views.{Seen}
+use Rattle.places.specs.Places.{checked, top, step, nameView, part, view, lookup, lookFrom}
+use Rattle.frames.specs.WriteList.{framed, readList, readFrames, untilClose}
+use Rattle.frames.specs.Writer.{refusalNumber, zeros, written}
+use Rattle.frames.specs.Program.{program}
+use Rattle.places.specs.Show.{Shown, ShownPayload}
+use Rattle.places.specs.Stepping.{fieldAt, placeAt, Agree, Event, stepsFrom, stepping, events, IsFirst}
+use Rattle.places.specs.Siblings.{Inside}
+use Rattle.places.specs.Views.{Seen}
 use Rattle.format.proofs.Spelling as spelling
-use Rattle.format.proofs.Walk as walk
-use Rattle.walk.proofs.Siblings as siblings
-use Rattle.walk.proofs.Views as views
-use Rattle.walk.proofs.Bounds as bounds
+use Rattle.places.proofs.Walk as walk
+use Rattle.places.proofs.Siblings as siblings
+use Rattle.places.proofs.Views as views
+use Rattle.places.proofs.Bounds as bounds
 use Rattle.float.proofs.Numbers as numbers
 use Rattle.spelling.specs.Flawed.{sumWhere}
 use Rattle.spelling.specs.FlawTable.{HasFlaw, FlawsTold}

@@ -11,9 +11,9 @@ use Rattle.format.specs.Parse.{readVarUInt, fixed}
 use Rattle.format.specs.Names.{isEmpty, twins}
 use Rattle.format.specs.Payload.{payload}
 use Rattle.format.specs.Encoding.{encoding}
-use Rattle.format.specs.WriteList.{readFrames, readList}
-use Rattle.format.specs.Writer.{refusalNumber, Outcome, refuse, wrote, outcome}
-use Rattle.format.specs.Program.{typed, programOf}
+use Rattle.frames.specs.WriteList.{readFrames, readList}
+use Rattle.frames.specs.Writer.{refusalNumber, Outcome, refuse, wrote, outcome}
+use Rattle.frames.specs.Program.{typed, programOf}
 
 -- n empty arrays in an array
 abbrev close : ℕ → List ℕ

@@ -1,8 +1,8 @@
 -- The numbers that the calls for C and the program answer beside document 01's (docs/DECISIONS.md, 39, 45 and 46), computed of the definitions.
 use mathlib.Core.Path.{_≡_, refl}
 use mathlib.Core.List.{List, [], _∷_, map}
-use Rattle.format.specs.declared.Refusal.the-variants.{BadFrame}
-use Rattle.format.specs.Writer.{refuse, wrote}
+use Rattle.frames.specs.declared.Refusal.the-variants.{BadFrame}
+use Rattle.frames.specs.Writer.{refuse, wrote}
 use Rattle.number.specs.VarUInt.{varUInt}
 use Rattle.cabi.specs.Number.{tooFew, afterwards, varuint}
 use Rattle.cabi.specs.Reply.{given, noMore, notThere, wrongKind, outOfRange, told}

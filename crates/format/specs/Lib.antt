@@ -7,13 +7,3 @@ pub mod Encoding
 pub mod Payload
 pub mod Reader
 pub mod Mask
-pub mod Places
-pub mod Contents
-pub mod Values
-pub mod Show
-pub mod Stepping
-pub mod WriteList
-pub mod Writer
-pub mod Program
-pub mod Code
-pub mod Pieces

@@ -10,7 +10,7 @@ use lib.ListN.{length, take, drop, set, length-set}
 use lib.Seq.{sets, sets-eq}
 use lib.Dec.{eqb, ltb, leb}
 use borrow.Author.Tests.{lt-ltb, leb-true}
-use Rattle.format.specs.Program.{Character, digit, lineFeed, another, character, Typed, typed, mistyped, first, typeOne, typeFrom, bytesTyped}
+use Rattle.frames.specs.Program.{Character, digit, lineFeed, another, character, Typed, typed, mistyped, first, typeOne, typeFrom, bytesTyped}
 use Rattle.hexadecimal.specs.declared.Typing.{Typing}
 use Rattle.hexadecimal.specs.Typing.{toldOf, told, Fed, afterwards, start, oneMore, put, fedSecond, fedBy, fedOne, onward, fed}
 

@@ -8,7 +8,7 @@ use lib.ListN.{length, set, length-set, drop, getD, drop-of-length-le}
 use lib.Seq.{drop-cons}
 use lib.Dec.{eqb, ltb, leb}
 use borrow.Author.Tests.{lt-ltb, le-ltb, le-leb, lt-leb, ne-eqb}
-use Rattle.format.specs.Program.{character}
+use Rattle.frames.specs.Program.{character}
 use Rattle.hexadecimal.specs.declared.Character.{Character}
 use Rattle.hexadecimal.specs.declared.Character.the-variants as C
 use Rattle.hexadecimal.specs.declared.Typing.{Typing}

@@ -5,8 +5,8 @@ use mathlib.Core.Bool.{Bool, true, false, cond}
 use mathlib.Core.List.{List, [], _∷_}
 use lib.ListN.{length, set}
 use lib.Dec.{ltb}
-use Rattle.format.specs.Program.{character, digit, lineFeed, another}
-use Rattle.format.specs.Program as program
+use Rattle.frames.specs.Program.{character, digit, lineFeed, another}
+use Rattle.frames.specs.Program as program
 use Rattle.hexadecimal.specs.declared.Character.{Character}
 use Rattle.hexadecimal.specs.declared.Character.the-variants as C
 use Rattle.hexadecimal.specs.declared.Typing.{Typing}

@@ -8,14 +8,14 @@ use lib.ListN.{length, take, drop, length-append}
 use lib.Seq.{sets, sets-eq, length-take-le, take-at, take-all, take-length}
 use lib.Dec.{ltb}
 use borrow.Author.Tests.{ltb-true, ltb-false}
-use Rattle.format.specs.declared.Refusal.{Refusal}
-use Rattle.format.specs.declared.Refusal.the-variants.{BadFrame}
-use Rattle.format.specs.declared.Written.{Written}
-use Rattle.format.specs.declared.Written.the-variants.{Done, Refused}
+use Rattle.frames.specs.declared.Refusal.{Refusal}
+use Rattle.frames.specs.declared.Refusal.the-variants.{BadFrame}
+use Rattle.frames.specs.declared.Written.{Written}
+use Rattle.frames.specs.declared.Written.the-variants.{Done, Refused}
 use Rattle.format.specs.Encoding.{concat}
 use Rattle.write.specs.Whole.{cleared}
-use Rattle.format.specs.Writer.{refusalNumber, Outcome, refuse, wrote, outcome, Result, resultOf, written}
-use Rattle.format.specs.Program.{hexByte, decimal, wordRefused, wordAt, lineEnd, typed, mistyped, printed, programOf}
+use Rattle.frames.specs.Writer.{refusalNumber, Outcome, refuse, wrote, outcome, Result, resultOf, written}
+use Rattle.frames.specs.Program.{hexByte, decimal, wordRefused, wordAt, lineEnd, typed, mistyped, printed, programOf}
 use Rattle.hexadecimal.specs.declared.Typing.{Typing}
 use Rattle.program.specs.declared.Printed.{Printed}
 use Rattle.program.specs.Text.{Put, put}

@@ -7,8 +7,8 @@ use mathlib.Core.Logic.{_⊎_, inl, inr}
 use mathlib.Core.List.{List, [], _∷_, _++_}
 use lib.ListN.{length, take, drop, length-append, length-take}
 use Rattle.format.specs.Encoding.{concat}
-use Rattle.format.specs.Writer.{Outcome, refuse, wrote}
-use Rattle.format.specs.Program.{Typed, typed, mistyped, programOf, bytesTyped, program}
+use Rattle.frames.specs.Writer.{Outcome, refuse, wrote}
+use Rattle.frames.specs.Program.{Typed, typed, mistyped, programOf, bytesTyped, program}
 use Rattle.hexadecimal.specs.declared.Typing.{Typing}
 use Rattle.hexadecimal.specs.Typing.{Fed, afterwards, start, onward, fed}
 use Rattle.hexadecimal.proofs.Parts.{parts}

@@ -8,9 +8,9 @@ use lib.ListN.{length, take, drop, length-append}
 use lib.Dec.{ltb}
 use lib.Seq.{take-at, take-all}
 use borrow.Author.Tests.{lt-ltb, ltb-true, ltb-false}
-use Rattle.format.specs.declared.Refusal.the-variants.{ListTooLong}
-use Rattle.format.specs.Writer.{Outcome, refuse, outcome, Result, resultOf, written}
-use Rattle.format.specs.Program.{Typed, typed, mistyped, printed, programOf, bytesTyped, program}
+use Rattle.frames.specs.declared.Refusal.the-variants.{ListTooLong}
+use Rattle.frames.specs.Writer.{Outcome, refuse, outcome, Result, resultOf, written}
+use Rattle.frames.specs.Program.{Typed, typed, mistyped, printed, programOf, bytesTyped, program}
 use Rattle.hexadecimal.specs.declared.Typing.{Typing}
 use Rattle.hexadecimal.specs.Typing.{Fed, afterwards, start, fed}
 use Rattle.hexadecimal.proofs.Parts.{whole-typed, whole-mistyped}

@@ -2,7 +2,7 @@
 use Prim.Native.Nat.{ℕ}
 use mathlib.Core.List.{List}
 use Rattle.number.proofs.OneAnswer.{One, one}
-use Rattle.format.specs.Program.{bytesTyped}
+use Rattle.frames.specs.Program.{bytesTyped}
 use Rattle.hexadecimal.specs.declared.Typing.{Typing}
 use Rattle.program.specs.Answer.{answeredOf, answered}
 

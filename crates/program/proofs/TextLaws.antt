@@ -10,7 +10,7 @@ use lib.Seq.{sets, length-sets, take-suc, take-all, length-take-le}
 use borrow.Author.Tests.{lt-ltb, le-ltb}
 use lib.Dec.{ltb}
 use Rattle.format.specs.Encoding.{concat}
-use Rattle.format.specs.Program.{hexDigit, hexByte, decimal}
+use Rattle.frames.specs.Program.{hexDigit, hexByte, decimal}
 use Rattle.program.specs.Text.{Put, put}
 
 sets-append : (a b l : List ℕ) (i : ℕ) → sets (sets l i a) (i + length a) b ≡ sets l i (a ++ b)

@@ -4,8 +4,8 @@ use Prim.Native.Nat.{ℕ}
 use mathlib.Core.Bool.{Bool, true, false, _||_, cond}
 use mathlib.Core.List.{List, _++_}
 use lib.ListN.{length, take, drop}
-use Rattle.format.specs.Writer.{Outcome, refuse, wrote, zeros, written}
-use Rattle.format.specs.Program.{Typed, typed, mistyped, printed, programOf}
+use Rattle.frames.specs.Writer.{Outcome, refuse, wrote, zeros, written}
+use Rattle.frames.specs.Program.{Typed, typed, mistyped, printed, programOf}
 use Rattle.hexadecimal.specs.declared.Typing.{Typing}
 use Rattle.program.specs.declared.Printed.{Printed}
 

@@ -5,8 +5,8 @@ use mathlib.Core.Path.{_≡_}
 use mathlib.Core.List.{List, [], _∷_, _++_}
 use lib.ListN.{length}
 use Rattle.format.specs.Encoding.{concat}
-use Rattle.format.specs.Writer.{Outcome, refuse, wrote}
-use Rattle.format.specs.Program.{bytesTyped, programOf, program}
+use Rattle.frames.specs.Writer.{Outcome, refuse, wrote}
+use Rattle.frames.specs.Program.{bytesTyped, programOf, program}
 use Rattle.hexadecimal.specs.declared.Typing.{Typing}
 use Rattle.hexadecimal.specs.Typing.{Fed, afterwards, start, onward, fed}
 use Rattle.program.specs.declared.Reading.{Reading}

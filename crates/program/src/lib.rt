@@ -1,5 +1,5 @@
 // The program that reads a write list and prints its encoding, or why it is refused ("The write list", the last paragraph of document 01).
-use format::Written;
+use frames::Written;
 use hexadecimal::Typing;
 use libc::STDERR_FILENO;
 use libc::STDIN_FILENO;
@@ -11,7 +11,7 @@ ghost use mathlib.Core.List.{[], _∷_, _++_};
 ghost use Prim.Native.Nat.{_+_, _*_, _≤_, _<_, min};
 ghost use lib.ListN.{length, drop};
 ghost use Rattle.format.specs.Encoding.{concat};
-ghost use Rattle.format.specs.Program.{hexDigit, hexByte, decimal, wordRefused, wordAt, lineEnd, typed, bytesTyped, program};
+ghost use Rattle.frames.specs.Program.{hexDigit, hexByte, decimal, wordRefused, wordAt, lineEnd, typed, bytesTyped, program};
 ghost use Rattle.hexadecimal.specs.Typing.{start, fed};
 ghost use Rattle.program.specs.Text.{put};
 ghost use Rattle.program.specs.Answer.{afterwards, answeredOf, answered};

@@ -12,22 +12,22 @@ use borrow.Author.Tests.{le-ltb, ltb-false, ne-eqb}
 use Rattle.format.specs.declared.Kind.{Kind}
 use Rattle.format.specs.declared.Form.{Form}
 use Rattle.format.specs.declared.Stop.the-variants.{Early, TooDeep}
-use Rattle.format.specs.declared.Place.{Place}
-use Rattle.format.specs.declared.After.{After}
-use Rattle.format.specs.declared.After.the-variants.{Last}
-use Rattle.format.specs.declared.Checked.the-variants as C
-use Rattle.format.specs.declared.Step.the-variants as St
+use Rattle.places.specs.declared.Place.{Place}
+use Rattle.places.specs.declared.After.{After}
+use Rattle.places.specs.declared.After.the-variants.{Last}
+use Rattle.places.specs.declared.Checked.the-variants as C
+use Rattle.places.specs.declared.Step.the-variants as St
 use Rattle.format.specs.Limits.{depthLimit, lengthLimit}
 use Rattle.format.specs.Kinds.{id}
 use Rattle.format.specs.Parse.{Flaw, Out, fault, got}
 use Rattle.format.specs.Payload.{Head, value, fieldsIn, itemsIn, front, head}
-use Rattle.format.specs.Places.{check, checked, placeOf, met, meet, stepOf, from, stepIn, stepFrom, step}
+use Rattle.places.specs.Places.{check, checked, placeOf, met, meet, stepOf, from, stepIn, stepFrom, step}
 use Rattle.format.proofs.Lists.{append-nil}
 use Rattle.format.proofs.KindLaws.{known-rt}
 use Rattle.format.proofs.Local.{bind-got}
 use Rattle.format.proofs.HeadParts.{local-head, front-takes, head-body}
-use Rattle.walk.proofs.PassedPlaces.{slice-part}
-use Rattle.format.proofs.Parts.{Part, part-to, part-is, part-left, part-right, part-slice}
+use Rattle.places.proofs.PassedPlaces.{slice-part}
+use Rattle.places.proofs.Parts.{Part, part-to, part-is, part-left, part-right, part-slice}
 use Rattle.read.specs.declared.Opened.the-variants as O
 use Rattle.read.proofs.OpenLaws.{Sound, sound-fields, sound-items, check-got}
 

@@ -7,16 +7,16 @@ use lib.ListN.{length, length-append}
 use Rattle.format.specs.declared.Kind.{Kind}
 use Rattle.format.specs.declared.Form.{Form}
 use Rattle.format.specs.declared.Stop.{Stop}
-use Rattle.format.specs.declared.Modes.{Modes}
-use Rattle.format.specs.declared.Faults.{Faults}
-use Rattle.format.specs.declared.Met.{Met}
-use Rattle.format.specs.declared.Met.the-variants as M
-use Rattle.format.specs.declared.Place.{Place}
+use Rattle.head.specs.declared.Modes.{Modes}
+use Rattle.head.specs.declared.Faults.{Faults}
+use Rattle.head.specs.declared.Met.{Met}
+use Rattle.head.specs.declared.Met.the-variants as M
+use Rattle.places.specs.declared.Place.{Place}
 use Rattle.format.specs.Kinds.{id}
 use Rattle.format.specs.Parse.{Flaw, Out, fault, got, withFlaws, bind, make}
 use Rattle.format.specs.Payload.{Head, value, fieldsIn, itemsIn, front, head}
-use Rattle.format.specs.Places.{placeOf, met}
-use Rattle.format.specs.Code.{answerOf, meeting, metIn, meetAt}
+use Rattle.places.specs.Places.{placeOf, met}
+use Rattle.head.specs.Code.{answerOf, meeting, metIn, meetAt}
 use Rattle.format.proofs.Local.{local-le}
 use Rattle.format.proofs.HeadParts.{local-head, front-takes, Taken}
 use Rattle.read.specs.declared.Field.{Field}

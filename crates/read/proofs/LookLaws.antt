@@ -17,20 +17,20 @@ use Rattle.format.specs.declared.Form.{Form}
 use Rattle.format.specs.declared.Form.the-variants as Fo
 use Rattle.format.specs.declared.Stop.{Stop}
 use Rattle.format.specs.declared.Stop.the-variants.{BadUniform}
-use Rattle.format.specs.declared.Place.{Place}
-use Rattle.format.specs.declared.After.{After}
-use Rattle.format.specs.declared.After.the-variants.{Start, Last}
-use Rattle.format.specs.declared.Step.{Step}
-use Rattle.format.specs.declared.Step.the-variants as St
-use Rattle.format.specs.declared.Found.{Found}
-use Rattle.format.specs.declared.Found.the-variants as F
+use Rattle.places.specs.declared.Place.{Place}
+use Rattle.places.specs.declared.After.{After}
+use Rattle.places.specs.declared.After.the-variants.{Start, Last}
+use Rattle.places.specs.declared.Step.{Step}
+use Rattle.places.specs.declared.Step.the-variants as St
+use Rattle.places.specs.declared.Found.{Found}
+use Rattle.places.specs.declared.Found.the-variants as F
 use Rattle.format.specs.Kinds.{kindAt, isBare}
 use Rattle.format.specs.Limits.{lengthLimit}
 use Rattle.format.specs.Parse.{Flaw, Out, fault, got, bind, make, readVarUInt, sized}
 use Rattle.format.specs.Tree.{Leaf}
 use Rattle.format.specs.Payload.{Payload, leaf, fields, sharedFields, items, sharedItems, payload, headBy, Head, value, fieldsIn, itemsIn, head, sharedFieldsOf, readSharedFields, sharedItemsOf, readSharedItems, readFields, readItems}
-use Rattle.format.specs.Places.{check, from, stepIn, stepFrom, step, lookAt, lookFrom, lookIn, lookup}
-use Rattle.format.specs.Pieces.{between}
+use Rattle.places.specs.Places.{check, from, stepIn, stepFrom, step, lookAt, lookFrom, lookIn, lookup}
+use Rattle.head.specs.Pieces.{between}
 use Rattle.format.proofs.Back.{never}
 use Rattle.format.proofs.Local.{bind-got, sized-got}
 use Rattle.read.specs.declared.Opened.{Opened}

@@ -2,10 +2,10 @@
 use Prim.Native.Nat.{ℕ}
 use mathlib.Core.List.{List}
 use Rattle.number.proofs.OneAnswer.{One, one}
-use Rattle.format.specs.declared.Place.{Place}
-use Rattle.format.specs.declared.After.{After}
-use Rattle.format.specs.Places.{top, checked, step, nameView, part, view, lookup}
-use Rattle.format.specs.Values.{double, signed, unsigned, ticks}
+use Rattle.places.specs.declared.Place.{Place}
+use Rattle.places.specs.declared.After.{After}
+use Rattle.places.specs.Places.{top, checked, step, nameView, part, view, lookup}
+use Rattle.places.specs.Values.{double, signed, unsigned, ticks}
 
 module _ (payload : List ℕ) where
   -- not: one at depth 0; one that answers a fault for every payload

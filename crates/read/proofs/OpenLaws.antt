@@ -15,20 +15,20 @@ use Rattle.format.specs.declared.Form.{Form}
 use Rattle.format.specs.declared.Stop.{Stop}
 use Rattle.format.specs.declared.Stop.the-variants.{Early, TooDeep, TooLong}
 use Rattle.format.specs.declared.Stop.the-variants as S
-use Rattle.format.specs.declared.Modes.{Modes}
-use Rattle.format.specs.declared.Faults.{Faults}
-use Rattle.format.specs.declared.Heading.{Heading}
-use Rattle.format.specs.declared.Heading.the-variants as H
-use Rattle.format.specs.declared.Place.{Place}
-use Rattle.format.specs.declared.Checked.{Checked}
-use Rattle.format.specs.declared.Checked.the-variants as C
+use Rattle.head.specs.declared.Modes.{Modes}
+use Rattle.head.specs.declared.Faults.{Faults}
+use Rattle.head.specs.declared.Heading.{Heading}
+use Rattle.head.specs.declared.Heading.the-variants as H
+use Rattle.places.specs.declared.Place.{Place}
+use Rattle.places.specs.declared.Checked.{Checked}
+use Rattle.places.specs.declared.Checked.the-variants as C
 use Rattle.format.specs.Limits.{depthLimit, lengthLimit}
 use Rattle.format.specs.Kinds.{id, known}
 use Rattle.format.specs.Parse.{Flaw, Out, fault, got, whole}
 use Rattle.format.specs.Payload.{Head, value, fieldsIn, itemsIn, head}
-use Rattle.format.specs.Places.{payloadAt, check, checkedOf, checked}
-use Rattle.format.specs.Code.{answerOf, headingOf, headAt}
-use Rattle.format.specs.Pieces.{between}
+use Rattle.places.specs.Places.{payloadAt, check, checkedOf, checked}
+use Rattle.head.specs.Code.{answerOf, headingOf, headAt}
+use Rattle.head.specs.Pieces.{between}
 use Rattle.format.proofs.Lists.{drop-take}
 use Rattle.format.proofs.Back.{never}
 use Rattle.format.proofs.KindLaws.{known-inv}

@@ -11,19 +11,19 @@ use borrow.Author.Tests.{lt-ltb, le-ltb, eq-eqb, ne-eqb}
 use Rattle.format.specs.declared.Form.{Form}
 use Rattle.format.specs.declared.Stop.{Stop}
 use Rattle.format.specs.declared.Stop.the-variants.{Early, TooDeep}
-use Rattle.format.specs.declared.Modes.{Modes}
-use Rattle.format.specs.declared.Faults.{Faults}
-use Rattle.format.specs.declared.Met.{Met}
-use Rattle.format.specs.declared.Place.{Place}
-use Rattle.format.specs.declared.After.{After}
-use Rattle.format.specs.declared.Step.{Step}
-use Rattle.format.specs.declared.Step.the-variants as St
+use Rattle.head.specs.declared.Modes.{Modes}
+use Rattle.head.specs.declared.Faults.{Faults}
+use Rattle.head.specs.declared.Met.{Met}
+use Rattle.places.specs.declared.Place.{Place}
+use Rattle.places.specs.declared.After.{After}
+use Rattle.places.specs.declared.Step.{Step}
+use Rattle.places.specs.declared.Step.the-variants as St
 use Rattle.format.specs.Limits.{depthLimit, lengthLimit}
 use Rattle.format.specs.Parse.{Out, fault, got}
 use Rattle.format.specs.Payload.{Head, value, fieldsIn, itemsIn}
-use Rattle.format.specs.Places.{check, met, meet, stepOf, from, stepIn, stepFrom, step}
-use Rattle.format.specs.Code.{meetAt}
-use Rattle.format.specs.Pieces.{between}
+use Rattle.places.specs.Places.{check, met, meet, stepOf, from, stepIn, stepFrom, step}
+use Rattle.head.specs.Code.{meetAt}
+use Rattle.head.specs.Pieces.{between}
 use Rattle.read.specs.declared.Opened.{Opened}
 use Rattle.read.specs.declared.Opened.the-variants as O
 use Rattle.read.specs.declared.Field.{Field}

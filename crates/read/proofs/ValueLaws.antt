@@ -32,15 +32,15 @@ use Rattle.format.specs.declared.Form.{Form}
 use Rattle.format.specs.declared.Form.the-variants as Fo
 use Rattle.format.specs.declared.Stop.{Stop}
 use Rattle.format.specs.declared.Stop.the-variants.{Early, TooDeep, TooLong, BadUniform}
-use Rattle.format.specs.declared.Place.{Place}
-use Rattle.format.specs.declared.Double.{Double}
-use Rattle.format.specs.declared.Double.the-variants as D
-use Rattle.format.specs.declared.Signed.{Signed}
-use Rattle.format.specs.declared.Signed.the-variants as I
-use Rattle.format.specs.declared.Unsigned.{Unsigned}
-use Rattle.format.specs.declared.Unsigned.the-variants as U
-use Rattle.format.specs.declared.Ticks.{Ticks}
-use Rattle.format.specs.declared.Ticks.the-variants as T
+use Rattle.places.specs.declared.Place.{Place}
+use Rattle.places.specs.declared.Double.{Double}
+use Rattle.places.specs.declared.Double.the-variants as D
+use Rattle.places.specs.declared.Signed.{Signed}
+use Rattle.places.specs.declared.Signed.the-variants as I
+use Rattle.places.specs.declared.Unsigned.{Unsigned}
+use Rattle.places.specs.declared.Unsigned.the-variants as U
+use Rattle.places.specs.declared.Ticks.{Ticks}
+use Rattle.places.specs.declared.Ticks.the-variants as T
 use Rattle.format.specs.Limits.{depthLimit, lengthLimit}
 use Rattle.format.specs.Kinds.{id, known, kindAt, isBare}
 use Rattle.format.specs.Parse.{Flaw, low, wide, long, Out, fault, got, bind, raise, make, whole, readVarUInt, fixed, sized, rest}
@@ -49,10 +49,10 @@ use Rattle.format.specs.Names.{readText}
 use Rattle.format.specs.Tree.{Float, Leaf, null, bool, integer, float, binary, string, objectAttachment, binaryAttachment, hash, uuid, objectId, dateTime, timeSpan, customById, customByName}
 use Rattle.format.specs.Tree as trees
 use Rattle.format.specs.Payload.{float32, float64, readCustomById, readCustomByName, payload, Head, value, fieldsIn, itemsIn, head, sharedFieldsOf, readSharedFields, sharedItemsOf, readSharedItems, readFields, readItems}
-use Rattle.format.specs.Places.{payloadAt, check}
-use Rattle.format.specs.Values.{Sort, real, time, other, sortOf, answerBy, floatBits, doubleOf, double, signedOf, signed, unsignedOf, unsigned, ticksOf, ticks}
-use Rattle.format.specs.Values as values
-use Rattle.format.specs.Pieces.{between}
+use Rattle.places.specs.Places.{payloadAt, check}
+use Rattle.places.specs.Values.{Sort, real, time, other, sortOf, answerBy, floatBits, doubleOf, double, signedOf, signed, unsignedOf, unsigned, ticksOf, ticks}
+use Rattle.places.specs.Values as values
+use Rattle.head.specs.Pieces.{between}
 use Rattle.format.proofs.Back.{never}
 use Rattle.format.proofs.KindLaws.{known-inv}
 use Rattle.format.proofs.Local.{bind-got, raise-got, whole-got, sized-got}

@@ -20,20 +20,20 @@ use Rattle.format.specs.declared.Form.{Form}
 use Rattle.format.specs.declared.Form.the-variants as Fo
 use Rattle.format.specs.declared.Stop.{Stop}
 use Rattle.format.specs.declared.Stop.the-variants.{Early, TooDeep}
-use Rattle.format.specs.declared.Place.{Place}
-use Rattle.format.specs.declared.After.{After}
-use Rattle.format.specs.declared.Checked.{Checked}
-use Rattle.format.specs.declared.Checked.the-variants as C
-use Rattle.format.specs.declared.Step.{Step}
-use Rattle.format.specs.declared.Step.the-variants as St
-use Rattle.format.specs.declared.Part.{Part}
-use Rattle.format.specs.declared.Part.the-variants as P
+use Rattle.places.specs.declared.Place.{Place}
+use Rattle.places.specs.declared.After.{After}
+use Rattle.places.specs.declared.Checked.{Checked}
+use Rattle.places.specs.declared.Checked.the-variants as C
+use Rattle.places.specs.declared.Step.{Step}
+use Rattle.places.specs.declared.Step.the-variants as St
+use Rattle.places.specs.declared.Part.{Part}
+use Rattle.places.specs.declared.Part.the-variants as P
 use Rattle.format.specs.Limits.{depthLimit}
 use Rattle.format.specs.Kinds.{id, known, hasSize}
 use Rattle.format.specs.Parse.{Flaw, Out, fault, got, bind}
 use Rattle.format.specs.Payload.{Head, value, fieldsIn, itemsIn, front, head}
-use Rattle.format.specs.Places.{check, checkedOf, checked, placeOf, met, meet, stepOf, from, stepIn, stepFrom, step, nameIn, nameView, taken, sizeLength, partOf, part, viewOf, view}
-use Rattle.format.specs.Pieces.{between}
+use Rattle.places.specs.Places.{check, checkedOf, checked, placeOf, met, meet, stepOf, from, stepIn, stepFrom, step, nameIn, nameView, taken, sizeLength, partOf, part, viewOf, view}
+use Rattle.head.specs.Pieces.{between}
 use Rattle.format.proofs.Local.{bind-got, local-le}
 use Rattle.format.proofs.HeadParts.{local-head, front-takes, Taken}
 use Rattle.read.specs.declared.Opened.{Opened}

@@ -18,17 +18,17 @@ use Rattle.float.specs.Width.{widen}
 use Rattle.format.specs.declared.Kind.{Kind}
 use Rattle.format.specs.declared.Form.{Form}
 use Rattle.format.specs.declared.Form.the-variants as Fo
-use Rattle.format.specs.declared.Met.{Met}
-use Rattle.format.specs.declared.Met.the-variants as M
-use Rattle.format.specs.declared.Place.{Place}
-use Rattle.format.specs.declared.Found.{Found}
-use Rattle.format.specs.declared.Found.the-variants as F
+use Rattle.head.specs.declared.Met.{Met}
+use Rattle.head.specs.declared.Met.the-variants as M
+use Rattle.places.specs.declared.Place.{Place}
+use Rattle.places.specs.declared.Found.{Found}
+use Rattle.places.specs.declared.Found.the-variants as F
 use Rattle.format.specs.Kinds.{id}
 use Rattle.format.specs.Parse.{Out, fault, got}
 use Rattle.format.specs.Tree.{Leaf}
 use Rattle.format.specs.Payload.{Head, value, fieldsIn, itemsIn}
-use Rattle.format.specs.Places.{met, stepIn, lookAt}
-use Rattle.format.specs.Values.{Sort, whole, real, time, other, sortOf, floatBits}
+use Rattle.places.specs.Places.{met, stepIn, lookAt}
+use Rattle.places.specs.Values.{Sort, whole, real, time, other, sortOf, floatBits}
 use Rattle.read.specs.declared.Opened.{Opened}
 use Rattle.read.specs.declared.Opened.the-variants as O
 use Rattle.read.specs.declared.Field.{Field}

@@ -1,21 +1,21 @@
 // The reading calls ("Places, views and values"). A place may be forged: every call makes the whole check of its place first.
-use format::After;
-use format::Checked;
-use format::Double;
 use format::Form;
-use format::Found;
-use format::Heading;
 use format::Kind;
 use format::Known;
-use format::Met;
-use format::Modes;
-use format::Part;
-use format::Place;
-use format::Signed;
-use format::Step;
 use format::Stop;
-use format::Ticks;
-use format::Unsigned;
+use head::Heading;
+use head::Met;
+use head::Modes;
+use places::After;
+use places::Checked;
+use places::Double;
+use places::Found;
+use places::Part;
+use places::Place;
+use places::Signed;
+use places::Step;
+use places::Ticks;
+use places::Unsigned;
 ghost use mathlib.Core.Path.{_≡_};
 ghost use Prim.Native.Nat.{suc, _+_, _≤_, _<_};
 ghost use lib.ListN.{length};
@@ -27,9 +27,9 @@ ghost use Rattle.format.specs.Limits.{depthLimit, lengthLimit};
 ghost use Rattle.format.specs.Kinds.{hasSize};
 ghost use Rattle.format.specs.Parse.{whole};
 ghost use Rattle.format.specs.Payload.{head};
-ghost use Rattle.format.specs.Places.{check, checked, from, stepIn, step, nameView, sizeLength, part, view, lookup};
-ghost use Rattle.format.specs.Values.{doubleOf, double, signedOf, signed, unsigned, ticks};
-ghost use Rattle.format.specs.Values as values;
+ghost use Rattle.places.specs.Places.{check, checked, from, stepIn, step, nameView, sizeLength, part, view, lookup};
+ghost use Rattle.places.specs.Values.{doubleOf, double, signedOf, signed, unsigned, ticks};
+ghost use Rattle.places.specs.Values as values;
 ghost use Rattle.read.specs.Code.{openedBy, fieldBy, fieldOf, fieldAt, Named, lookBy, integerIn, float32In, float64In, timeIn, valueIn, valueOf};
 
 // A place that was checked: a leaf's; or a container's, how its fields or items stand, and where its contents begin (they end with the place).
@@ -65,9 +65,9 @@ fn open_in(part: &[u8], kind: Kind, start: usize) -> Opened
         names: false,
         format: false,
     };
-    let faults = format::no_faults();
+    let faults = head::no_faults();
     let length = part.len();
-    match format::head_of(part, kind, modes, faults) {
+    match head::head_of(part, kind, modes, faults) {
         Heading::Stop(stop) => Opened::Stop(stop),
         Heading::Leaf { end, faults: _ } => {
             if end < length {
@@ -205,8 +205,8 @@ fn field_at(part: &[u8], form: Form, at: usize, depth: u32) -> Field
         names: false,
         format: false,
     };
-    let faults = format::no_faults();
-    match field_of(format::meet_of(part, form, modes, faults), depth) {
+    let faults = head::no_faults();
+    match field_of(head::meet_of(part, form, modes, faults), depth) {
         Field::Stop(stop) => Field::Stop(stop),
         Field::Is(place, name) => Field::Is(
             Place {

@@ -8,14 +8,14 @@ use mathlib.Core.List.{List, [], _++_}
 use lib.ListN.{length, length-append}
 use lib.Dec.{ltb}
 use borrow.Author.Tests.{le-ltb}
-use Rattle.format.specs.declared.Refusal.{Refusal}
-use Rattle.format.specs.declared.Refusal.the-variants.{ListEnds, Complete, ListTooLong, FewWorkNumbers, EncodingTooLong}
-use Rattle.format.specs.declared.Written.the-variants.{Refused}
+use Rattle.frames.specs.declared.Refusal.{Refusal}
+use Rattle.frames.specs.declared.Refusal.the-variants.{ListEnds, Complete, ListTooLong, FewWorkNumbers, EncodingTooLong}
+use Rattle.frames.specs.declared.Written.the-variants.{Refused}
 use Rattle.format.specs.Limits.{depthLimit, lengthLimit}
 use Rattle.format.specs.Tree.{Tree}
 use Rattle.format.specs.Encoding.{encoding, sizesOf}
-use Rattle.format.specs.WriteList.{Frames, refused, framed, readList}
-use Rattle.format.specs.Writer.{refusalNumber, refuse, wrote, outcome, outcomeAfter, resultOf, written}
+use Rattle.frames.specs.WriteList.{Frames, refused, framed, readList}
+use Rattle.frames.specs.Writer.{refusalNumber, refuse, wrote, outcome, outcomeAfter, resultOf, written}
 use Rattle.refusals.proofs.OpenLists.{leftOf, list-open, list-complete}
 
 module _ (output work : List ℕ) where

@@ -9,15 +9,15 @@ use mathlib.Core.List.{List, [], _++_, map}
 use lib.ListN.{length, length-append}
 use Rattle.text.specs.Equal.{equal}
 use Rattle.format.specs.declared.Kind.{Kind}
-use Rattle.format.specs.declared.Refusal.{Refusal}
-use Rattle.format.specs.declared.Refusal.the-variants.{ListEnds, BadFrame, EmptyName, NameUsed, NotText}
+use Rattle.frames.specs.declared.Refusal.{Refusal}
+use Rattle.frames.specs.declared.Refusal.the-variants.{ListEnds, BadFrame, EmptyName, NameUsed, NotText}
 use Rattle.format.specs.Kinds.{any}
 use Rattle.format.specs.Parse.{Flaw, blank, long, low, notText, Out, fault, got, raise, make}
 use Rattle.format.specs.Names.{isEmpty, readText, readName}
 use Rattle.format.specs.Mask.{has}
 use Rattle.format.specs.Tree.{Leaf, Node, atom, array, object}
 use Rattle.format.specs.Payload.{Payload, leaf, fields, sharedFields, items, sharedItems, payload, value, head}
-use Rattle.format.specs.WriteList.{Frames, refused, framed, nameFound, frameName, leafFound, untilClose, FrameReader, framePayload}
+use Rattle.frames.specs.WriteList.{Frames, refused, framed, nameFound, frameName, leafFound, untilClose, FrameReader, framePayload}
 use Rattle.format.proofs.Lists.{append-nil}
 use Rattle.format.proofs.Local.{bind-got, with-put, Local, local-bind, local-raise}
 use Rattle.format.proofs.HeadParts.{local-text, local-head}

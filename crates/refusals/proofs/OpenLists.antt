@@ -10,11 +10,11 @@ use mathlib.Core.List.{List, [], _∷_, _++_, map, append-assoc}
 use lib.ListN.{length, length-append}
 use lib.Dec.{eqb}
 use Rattle.format.specs.declared.Kind.{Kind}
-use Rattle.format.specs.declared.Refusal.the-variants.{ListEnds, NoneOpen, Complete}
+use Rattle.frames.specs.declared.Refusal.the-variants.{ListEnds, NoneOpen, Complete}
 use Rattle.format.specs.Kinds.{known}
 use Rattle.format.specs.Tree.{array, object, Tree}
 use Rattle.format.specs.Payload.{Payload, leaf, fields, sharedFields, items, sharedItems, payload}
-use Rattle.format.specs.WriteList.{Frames, refused, framed, next, frameKind, frameName, leafFound, untilClose, FrameReader, framePayload, frame, readFrames, only, readList}
+use Rattle.frames.specs.WriteList.{Frames, refused, framed, next, frameKind, frameName, leafFound, untilClose, FrameReader, framePayload, frame, readFrames, only, readList}
 use Rattle.format.proofs.Lists.{append-nil}
 use Rattle.write.proofs.FrameCases.{never, next-got}
 use Rattle.refusals.proofs.FramesLocal.{next-refused, LocalFrames, Judges, until-got, until-refused}

@@ -12,11 +12,11 @@ use lib.Dec.{eqb}
 use Rattle.format.specs.declared.Kind.{Kind}
 use Rattle.format.specs.declared.Known.{Known}
 use Rattle.format.specs.declared.Known.the-variants.{Unknown, Is}
-use Rattle.format.specs.declared.Refusal.{Refusal}
-use Rattle.format.specs.declared.Refusal.the-variants.{ListEnds, BadFrame, TooDeep}
+use Rattle.frames.specs.declared.Refusal.{Refusal}
+use Rattle.frames.specs.declared.Refusal.the-variants.{ListEnds, BadFrame, TooDeep}
 use Rattle.format.specs.Kinds.{known}
 use Rattle.format.specs.Payload.{payload}
-use Rattle.format.specs.WriteList.{Frames, refused, framed, next, isWritable, frameKind, frameName, untilClose, FrameReader, framePayload, frame, readFrames}
+use Rattle.frames.specs.WriteList.{Frames, refused, framed, next, isWritable, frameKind, frameName, untilClose, FrameReader, framePayload, frame, readFrames}
 use Rattle.write.proofs.FrameCases.{never, next-got}
 use Rattle.refusals.proofs.FramesLocal.{next-refused, LocalFrames, OfFrame, Verdict, Judges, here}
 use Rattle.refusals.proofs.FrameParts.{carried, name-got, name-refused, payload-got, payload-refused}

@@ -10,14 +10,14 @@ use lib.ListN.{length, take, length-append}
 use lib.Seq.{take-at}
 use lib.Dec.{eqb, ltb}
 use borrow.Author.Tests.{ltb-false, le-ltb}
-use Rattle.format.specs.declared.Refusal.{Refusal}
-use Rattle.format.specs.declared.Refusal.the-variants.{ListEnds, BadFrame, EmptyName, NameUsed, NotText, TooDeep, NoneOpen, Complete, ListTooLong, FewWorkNumbers, EncodingTooLong}
-use Rattle.format.specs.declared.Written.the-variants.{Done, Refused}
+use Rattle.frames.specs.declared.Refusal.{Refusal}
+use Rattle.frames.specs.declared.Refusal.the-variants.{ListEnds, BadFrame, EmptyName, NameUsed, NotText, TooDeep, NoneOpen, Complete, ListTooLong, FewWorkNumbers, EncodingTooLong}
+use Rattle.frames.specs.declared.Written.the-variants.{Done, Refused}
 use Rattle.format.specs.Limits.{depthLimit, lengthLimit}
 use Rattle.format.specs.Tree.{Tree}
 use Rattle.format.specs.Encoding.{encoding, sizesOf}
-use Rattle.format.specs.WriteList.{Frames, refused, framed, next, readFrames, only, readList}
-use Rattle.format.specs.Writer.{refuse, wrote, outcome, outcomeAfter, resultOf, written}
+use Rattle.frames.specs.WriteList.{Frames, refused, framed, next, readFrames, only, readList}
+use Rattle.frames.specs.Writer.{refuse, wrote, outcome, outcomeAfter, resultOf, written}
 use Rattle.format.proofs.Lists.{append-nil}
 use Rattle.refusals.specs.Refused.{AtFrame, BehindTop, Placed}
 use Rattle.write.proofs.FrameCases.{never}

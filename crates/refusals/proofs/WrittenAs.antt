@@ -4,12 +4,12 @@ use mathlib.Core.Path.{_≡_, ap}
 use mathlib.Core.List.{List, [], _++_}
 use lib.ListN.{length, drop}
 use borrow.Author.Tests.{le-ltb}
-use Rattle.format.specs.declared.Written.the-variants.{Done}
+use Rattle.frames.specs.declared.Written.the-variants.{Done}
 use Rattle.format.specs.Limits.{depthLimit, lengthLimit}
 use Rattle.format.specs.Tree.{Tree}
 use Rattle.format.specs.Encoding.{encoding, sizesOf}
-use Rattle.format.specs.WriteList.{framed, readList}
-use Rattle.format.specs.Writer.{wrote, outcome, Result, zeros, resultOf, written}
+use Rattle.frames.specs.WriteList.{framed, readList}
+use Rattle.frames.specs.Writer.{wrote, outcome, Result, zeros, resultOf, written}
 
 -- what is written of a list that describes t: the answer is the encoding's length; the output begins with the encoding, and is untouched past it; the work
 -- numbers begin with the sizes of the containers, in order of opening, and are zero past them

@@ -3,13 +3,13 @@ use Prim.Native.Nat.{ℕ, _<_}
 use mathlib.Core.Path.{_≡_}
 use mathlib.Core.List.{List, []}
 use lib.ListN.{length, take}
-use Rattle.format.specs.declared.Refusal.{Refusal}
-use Rattle.format.specs.declared.Refusal.the-variants.{ListEnds, BadFrame, EmptyName, NameUsed, NotText, TooDeep, NoneOpen, Complete, ListTooLong, FewWorkNumbers, EncodingTooLong}
-use Rattle.format.specs.declared.Written.the-variants.{Refused}
+use Rattle.frames.specs.declared.Refusal.{Refusal}
+use Rattle.frames.specs.declared.Refusal.the-variants.{ListEnds, BadFrame, EmptyName, NameUsed, NotText, TooDeep, NoneOpen, Complete, ListTooLong, FewWorkNumbers, EncodingTooLong}
+use Rattle.frames.specs.declared.Written.the-variants.{Refused}
 use Rattle.format.specs.Limits.{depthLimit}
 use Rattle.format.specs.Tree.{Tree}
-use Rattle.format.specs.WriteList.{framed, readList}
-use Rattle.format.specs.Writer.{written}
+use Rattle.frames.specs.WriteList.{framed, readList}
+use Rattle.frames.specs.Writer.{written}
 
 -- a frame begins at p, and no frame before it is faulty: the list cut there is refused with 1, at its end. (Cut inside a frame it would be refused at that frame, and never with 1.)
 abbrev pub AtFrame : ℕ → List ℕ → List ℕ → List ℕ → Type 0

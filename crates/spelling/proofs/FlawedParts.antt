@@ -16,7 +16,7 @@ use Rattle.format.specs.Names.{isEmpty, twins}
 use Rattle.format.specs.Tree.{Leaf, integer, float, atom, array, object}
 use Rattle.format.specs.Payload.{float64}
 use Rattle.format.specs.Reader.{Named, namesIn}
-use Rattle.format.specs.Values.{floatBits, sortOf}
+use Rattle.places.specs.Values.{floatBits, sortOf}
 use Rattle.spelling.specs.Flawed.{leafTexts, isLow, isHeld, flawedPart}
 use Rattle.spelling.proofs.AnyLaws.{any-map, any-none}
 use Rattle.spelling.proofs.Tells.{is}

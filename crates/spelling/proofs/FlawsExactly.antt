@@ -22,9 +22,9 @@ use Rattle.format.specs.Names.{isEmpty, twins}
 use Rattle.format.specs.Limits.{depthLimit}
 use Rattle.format.specs.Tree.{Float, Node}
 use Rattle.format.specs.Reader.{Standing, Layout}
-use Rattle.format.specs.Values.{Sort, whole, real, time, other, floatBits}
+use Rattle.places.specs.Values.{Sort, whole, real, time, other, floatBits}
 use Rattle.format.specs.Mask.{has, flaws}
-use Rattle.format.specs.Show.{ShownPayload}
+use Rattle.places.specs.Show.{ShownPayload}
 use Rattle.spelling.specs.Flawed.{Part, parts, inside, namesOf, textsOf, numberOf, isLow, isHeld, flawedPart, flawed}
 use Rattle.spelling.specs.Spells.{Bare}
 use Rattle.spelling.specs.FlawTable.{In, Twice, OneId, FlawIn, HasFlaw}

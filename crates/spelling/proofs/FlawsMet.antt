@@ -17,7 +17,7 @@ use Rattle.format.specs.Payload.{Head, value, fieldsIn, itemsIn, front, head}
 use Rattle.format.specs.Reader.{Standing, Named, Layout, Reader, kindsIn, namesIn, isTyped, asArray, asObject, contents, readNode, readField, read}
 use Rattle.format.specs.Limits.{depthLimit}
 use Rattle.format.specs.Mask.{has, flaws, sumOf, paddingOf, mask, boundsOnly}
-use Rattle.format.specs.Show.{ShownPayload}
+use Rattle.places.specs.Show.{ShownPayload}
 use Rattle.format.proofs.Lists.{map-map}
 use Rattle.format.proofs.Masks.{mask-case, mask-short}
 use Rattle.format.proofs.Strict.{bounds-if-tree}

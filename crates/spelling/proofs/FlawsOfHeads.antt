@@ -27,7 +27,7 @@ use Rattle.format.specs.Names.{isEmpty, readText, readName}
 use Rattle.format.specs.Tree.{Leaf, null, bool, integer, float, binary, string, objectAttachment, binaryAttachment, hash, uuid, objectId, customById, customByName, atom}
 use Rattle.format.specs.Payload.{payload, kindFound, readType, float64, readNegative, readFloat64, readCustomById, readCustomByName, Head, value, fieldsIn, itemsIn, sharedFieldsOf, readSharedFields, sharedItemsOf, readSharedItems, readFields, readItems, front, head}
 use Rattle.format.specs.Reader.{isTyped}
-use Rattle.format.specs.Values.{sortOf}
+use Rattle.places.specs.Values.{sortOf}
 use Rattle.spelling.specs.Flawed.{leafTexts, isLow, isHeld, flawedPart}
 use Rattle.spelling.proofs.Tells.{is, Tells, Adds, Keeps, tells-got, tells-bind, tells-raise, tells-make, tells-whole, tells-unless, tells-as, tells-fixed}
 use Rattle.spelling.proofs.FlawedParts.{leaf-none, leaf-text, leaf-low, leaf-wide, nameFlawed}

@@ -16,7 +16,7 @@ use Rattle.format.specs.Reader.{Standing, Named, Layout, read}
 use Rattle.format.specs.Limits.{depthLimit, lengthLimit}
 use Rattle.format.specs.Mask.{has, flaws, paddingOf, maskOf, mask, boundsOnly}
 use Rattle.spelling.specs.Flawed.{sumWhere, shownFlaw}
-use Rattle.format.specs.Show.{ShownPayload}
+use Rattle.places.specs.Show.{ShownPayload}
 use Rattle.spelling.specs.Spells.{Spells, anyForm, minimalForm}
 use Rattle.format.proofs.Masks.{mask-case, mask-short, bounds-case}
 use Rattle.spelling.proofs.FlawsMet.{flaws-of-read, sum-where}

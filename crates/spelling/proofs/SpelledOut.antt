@@ -15,7 +15,7 @@ use Rattle.format.specs.Limits.{depthLimit, lengthLimit}
 use Rattle.format.specs.Parse.{Flaw, long}
 use Rattle.format.specs.Reader.{Standing, Named, Layout}
 use Rattle.format.specs.Mask.{stopValue, flaws, has, sumOf, paddingOf, mask, boundsOnly}
-use Rattle.format.specs.Show.{ShownPayload}
+use Rattle.places.specs.Show.{ShownPayload}
 use Rattle.spelling.specs.Flawed.{sumWhere}
 use Rattle.spelling.specs.FlawTable.{HasFlaw, FlawsTold}
 use Rattle.spelling.specs.Spells.{anyForm, minimalForm, Spells}

@@ -16,7 +16,7 @@ use Rattle.format.specs.Parse.{Flaw, twin, blank, long, low, wide, notText, not
 use Rattle.format.specs.Tree.{Float, Node}
 use Rattle.format.specs.Limits.{depthLimit}
 use Rattle.format.specs.Reader.{Standing, Named, Layout}
-use Rattle.format.specs.Values.{whole, real, floatBits}
+use Rattle.places.specs.Values.{whole, real, floatBits}
 use Rattle.spelling.specs.Flawed.{Part, parts, inside, namesOf, textsOf, numberOf}
 use Rattle.spelling.specs.Spells.{minimalForm, Bare, Spells}
 

@@ -15,7 +15,7 @@ use Rattle.format.specs.Names.{isEmpty, twins}
 use Rattle.format.specs.Tree.{Leaf, null, bool, integer, float, binary, string, objectAttachment, binaryAttachment, hash, uuid, objectId, dateTime, timeSpan, customById, customByName, Node, atom, array, object, mapNode}
 use Rattle.format.specs.Reader.{Standing, Layout}
 use Rattle.format.specs.Mask.{flawValue, modeOf, isAsked}
-use Rattle.format.specs.Values.{Sort, whole, real, time, other, sortOf, floatBits}
+use Rattle.places.specs.Values.{Sort, whole, real, time, other, sortOf, floatBits}
 
 -- ---- every field of a layout
 

@@ -10,19 +10,19 @@ use Rattle.format.specs.declared.Kind.{Kind}
 use Rattle.format.specs.declared.Form.{Form}
 use Rattle.format.specs.declared.Stop.{Stop}
 use Rattle.format.specs.declared.Stop.the-variants.{Early}
-use Rattle.format.specs.declared.Modes.{Modes}
-use Rattle.format.specs.declared.Faults.{Faults}
+use Rattle.head.specs.declared.Modes.{Modes}
+use Rattle.head.specs.declared.Faults.{Faults}
 use Rattle.format.specs.Kinds.{isUniform, isUniformArray}
 use Rattle.format.specs.Names.{twins}
 use Rattle.format.specs.Tree.{array, object}
 use Rattle.format.specs.Parse.{Flaw, twin, notUniform, Out, fault, got, withFlaws, bind, raise, whole, many, fill}
 use Rattle.format.specs.Payload.{fieldsIn, itemsIn}
 use Rattle.format.specs.Reader.{Standing, Named, Layout, kindsIn, namesIn, isTyped, read}
-use Rattle.format.specs.Code.{noted, flawIf, answerOf}
-use Rattle.format.specs.Pieces.{between}
+use Rattle.head.specs.Code.{noted, flawIf, answerOf}
+use Rattle.head.specs.Pieces.{between}
 use Rattle.format.proofs.Local.{with-put}
-use Rattle.format.proofs.MeetCases.{end-drop, rest-all}
-use Rattle.format.proofs.FaultLaws.{noted-none, noted-more}
+use Rattle.head.proofs.MeetCases.{end-drop, rest-all}
+use Rattle.head.proofs.FaultLaws.{noted-none, noted-more}
 use Rattle.validate.specs.declared.Field.{Field}
 use Rattle.validate.specs.declared.Field.the-variants as F
 use Rattle.validate.specs.declared.Contents.the-variants as C

@@ -13,21 +13,21 @@ use Rattle.text.specs.Equal.{equal}
 use Rattle.format.specs.declared.Kind.{Kind}
 use Rattle.format.specs.declared.Form.{Form}
 use Rattle.format.specs.declared.Stop.the-variants.{Early}
-use Rattle.format.specs.declared.Modes.{Modes}
-use Rattle.format.specs.declared.Faults.{Faults}
-use Rattle.format.specs.declared.Met.{Met}
-use Rattle.format.specs.declared.Met.the-variants as M
+use Rattle.head.specs.declared.Modes.{Modes}
+use Rattle.head.specs.declared.Faults.{Faults}
+use Rattle.head.specs.declared.Met.{Met}
+use Rattle.head.specs.declared.Met.the-variants as M
 use Rattle.format.specs.Parse.{Flaw, Out, fault, got, fill}
 use Rattle.format.specs.Kinds.{any}
 use Rattle.format.specs.Names.{twins}
 use Rattle.format.specs.Payload.{front, Head, value, fieldsIn, itemsIn, head}
 use Rattle.format.specs.Reader.{Named, Standing, Layout, namesIn, contents, readNode, read}
-use Rattle.format.specs.Code.{answerOf, meeting, metOf, metIn, meetAt}
-use Rattle.format.specs.Pieces.{between}
+use Rattle.head.specs.Code.{answerOf, meeting, metOf, metIn, meetAt}
+use Rattle.head.specs.Pieces.{between}
 use Rattle.format.proofs.Back.{never}
 use Rattle.format.proofs.Local.{bind-got, whole-got, with-put}
 use Rattle.format.proofs.HeadParts.{local-head, Fronted, front-takes}
-use Rattle.format.proofs.MeetCases.{end-drop, rest-all}
+use Rattle.head.proofs.MeetCases.{end-drop, rest-all}
 use Rattle.validate.specs.declared.names.Name.{Name}
 use Rattle.validate.specs.declared.names.Name.the-variants as N
 use Rattle.validate.specs.FieldNames.{namesAfter, namesAt, fieldNames, endedAt, nameOf, nameIn, behind, nameAt}

@@ -6,14 +6,14 @@ use mathlib.Core.List.{List, [], _∷_, _++_}
 use lib.Dec.{eqb}
 use Rattle.format.specs.declared.Kind.{Kind}
 use Rattle.format.specs.declared.Form.{Form}
-use Rattle.format.specs.declared.Modes.{Modes}
-use Rattle.format.specs.declared.Faults.{Faults}
+use Rattle.head.specs.declared.Modes.{Modes}
+use Rattle.head.specs.declared.Faults.{Faults}
 use Rattle.format.specs.declared.Form.the-variants as G
 use Rattle.format.specs.Kinds.{id, same, all, isBare, isUniform, isUniformArray}
 use Rattle.format.specs.Parse.{twin, notUniform}
 use Rattle.format.specs.Reader.{isTyped}
-use Rattle.format.specs.Code.{noted, flawIf}
-use Rattle.format.proofs.FaultLaws.{unasked}
+use Rattle.head.specs.Code.{noted, flawIf}
+use Rattle.head.proofs.FaultLaws.{unasked}
 use Rattle.validate.specs.declared.Run.{Run}
 use Rattle.validate.specs.declared.Run.the-variants as R
 use Rattle.validate.specs.declared.Contents.{Contents}

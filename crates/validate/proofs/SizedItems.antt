@@ -12,14 +12,14 @@ use Rattle.format.specs.declared.Kind.{Kind}
 use Rattle.format.specs.declared.Form.{Form}
 use Rattle.format.specs.declared.Form.the-variants as G
 use Rattle.format.specs.declared.Stop.the-variants.{Early, TooDeep}
-use Rattle.format.specs.declared.Modes.{Modes}
-use Rattle.format.specs.declared.Faults.{Faults}
-use Rattle.format.specs.declared.Met.the-variants as M
+use Rattle.head.specs.declared.Modes.{Modes}
+use Rattle.head.specs.declared.Faults.{Faults}
+use Rattle.head.specs.declared.Met.the-variants as M
 use Rattle.format.specs.Payload.{itemsIn}
-use Rattle.format.specs.Code.{noted}
-use Rattle.format.specs.Pieces.{between, fixedSize}
-use Rattle.format.proofs.FaultLaws.{noted-none}
-use Rattle.format.proofs.MeetCases.{rest-all, fixed-short, fixed-long}
+use Rattle.head.specs.Code.{noted}
+use Rattle.head.specs.Pieces.{between, fixedSize}
+use Rattle.head.proofs.FaultLaws.{noted-none}
+use Rattle.head.proofs.MeetCases.{rest-all, fixed-short, fixed-long}
 use Rattle.validate.specs.declared.Contents.{Contents}
 use Rattle.validate.specs.declared.Contents.the-variants as C
 use Rattle.validate.specs.declared.Field.the-variants as F

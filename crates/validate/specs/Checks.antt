@@ -9,15 +9,15 @@ use Rattle.format.specs.declared.Kind.{Kind}
 use Rattle.format.specs.declared.Form.{Form}
 use Rattle.format.specs.declared.Form.the-variants as G
 use Rattle.format.specs.declared.Stop.the-variants.{Early, TooDeep}
-use Rattle.format.specs.declared.Modes.{Modes}
-use Rattle.format.specs.declared.Faults.{Faults}
+use Rattle.head.specs.declared.Modes.{Modes}
+use Rattle.head.specs.declared.Faults.{Faults}
 use Rattle.format.specs.Kinds.{same, all, isBare}
 use Rattle.format.specs.Parse.{twin, notUniform, whole}
 use Rattle.format.specs.Payload.{Head}
 use Rattle.format.specs.Mask.{isAsked, namesMode, formatMode}
 use Rattle.format.specs.Reader.{read, contents, isTyped}
-use Rattle.format.specs.Pieces.{fixedSize}
-use Rattle.format.specs.Code.{noted, flawIf, answerOf}
+use Rattle.head.specs.Pieces.{fixedSize}
+use Rattle.head.specs.Code.{noted, flawIf, answerOf}
 use Rattle.validate.specs.declared.Field.{Field}
 use Rattle.validate.specs.declared.Field.the-variants as F
 use Rattle.validate.specs.declared.Contents.{Contents}

@@ -6,12 +6,12 @@ use lib.ListN.{length, drop}
 use lib.Dec.{ltb, eqb}
 use Rattle.format.specs.declared.Kind.{Kind}
 use Rattle.format.specs.declared.Form.{Form}
-use Rattle.format.specs.declared.Met.{Met}
-use Rattle.format.specs.declared.Met.the-variants as M
+use Rattle.head.specs.declared.Met.{Met}
+use Rattle.head.specs.declared.Met.the-variants as M
 use Rattle.format.specs.Parse.{Out, fault, got}
 use Rattle.format.specs.Names.{twins}
 use Rattle.format.specs.Payload.{Head}
-use Rattle.format.specs.Code.{meeting}
+use Rattle.head.specs.Code.{meeting}
 use Rattle.validate.specs.declared.names.Name.{Name}
 use Rattle.validate.specs.declared.names.Name.the-variants as N
 

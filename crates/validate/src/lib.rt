@@ -1,11 +1,10 @@
 // The validator. A field calls the check of its contents, which calls the check of each field in them: the depth left falls.
-use format::Faults;
 use format::Form;
 use format::Kind;
-use format::Met;
-use format::Modes;
-use format::Place;
 use format::Stop;
+use head::Faults;
+use head::Met;
+use head::Modes;
 ghost use mathlib.Core.Path.{_≡_};
 ghost use Prim.Native.Nat.{_≤_, _<_};
 ghost use mathlib.Core.Bool.{cond, not, _&&_};
@@ -112,9 +111,9 @@ fn close(contents: Contents, kind: Kind, end: usize) -> Field
 fn end_object(part: &[u8], form: Form, modes: Modes, faults: Faults, run: Run) -> Faults
     ensures { λ r. ⌜ r ≡ objectEnd form modes faults run (now (part .entry)) ⌝ }
 {
-    let met = format::with_uniform(modes, faults, is_typed(form) & is_alike(run));
+    let met = head::with_uniform(modes, faults, is_typed(form) & is_alike(run));
     if modes.names {
-        format::with_twin(modes, met, names::twins(part, form))
+        head::with_twin(modes, met, names::twins(part, form))
     } else {
         met
     }
@@ -123,7 +122,7 @@ fn end_object(part: &[u8], form: Form, modes: Modes, faults: Faults, run: Run) -
 fn end_array(form: Form, modes: Modes, faults: Faults, run: Run) -> Faults
     ensures { λ r. ⌜ r ≡ arrayEnd form modes faults run ⌝ }
 {
-    format::with_uniform(modes, faults, is_typed(form) & is_alike_full(run))
+    head::with_uniform(modes, faults, is_typed(form) & is_alike_full(run))
 }
 
 // The size that every item has by its kind; 0 where the kind does not tell.
@@ -135,7 +134,7 @@ fn item_size(form: Form) -> usize
         Form::Field => 0,
         Form::Item => 0,
         Form::SharedField(kind) => 0,
-        Form::SharedItem(kind) => format::fixed_size(kind),
+        Form::SharedItem(kind) => head::fixed_size(kind),
     }
 }
 
@@ -153,14 +152,14 @@ fn check_sizes(length: usize, count: u64, size: usize, left: usize, faults: Faul
     Contents::Stop(Stop::Early)
 }
 
-// A field at the front of a part. (The part is taken anew as in `format::meet_of`.)
+// A field at the front of a part. (The part is taken anew as in `head::meet_of`.)
 fn check_field(part: &[u8], form: Form, modes: Modes, left: usize, faults: Faults) -> Field
     ensures { λ r. ⌜ r ≡ fieldAt form modes left faults (now (part .entry)) ⌝ }
 {
     if left == 0 {
         return Field::Stop(Stop::TooDeep);
     }
-    match format::meet_of(&part[0..], form, modes, faults) {
+    match head::meet_of(&part[0..], form, modes, faults) {
         Met::Stop(stop) => Field::Stop(stop),
         Met::Leaf {
             kind,
@@ -305,19 +304,18 @@ fn is_asked(modes: u32, bit: u32) -> bool
 pub fn validate(modes: u32, payload: &[u8]) -> u32
     ensures { λ r. ⌜ r ≡ mask modes (now (payload .entry)) ⌝ }
 {
-    if Place::LENGTH < payload.len() {
+    if format::LENGTH < payload.len() {
         return stop_value(Stop::TooLong);
     }
     let asked = Modes {
         names: is_asked(modes, 1),
         format: is_asked(modes, 2),
     };
-    let nothing = format::no_faults();
-    match check_field(payload, Form::Top, asked, Place::DEPTH as usize, nothing) {
+    let nothing = head::no_faults();
+    match check_field(payload, Form::Top, asked, format::DEPTH as usize, nothing) {
         Field::Stop(stop) => stop_value(stop),
         Field::Read { kind, end, faults } => {
-            format::sum_of(faults) as u32
-                + value_if(is_asked(modes, 4) & (end < payload.len()), 4096)
+            head::sum_of(faults) as u32 + value_if(is_asked(modes, 4) & (end < payload.len()), 4096)
         }
     }
 }

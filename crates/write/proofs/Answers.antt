@@ -9,16 +9,16 @@ use lib.ListN.{length, drop}
 use lib.Dec.{eqb, ltb}
 use borrow.Author.Tests.{ltb-false}
 use Rattle.number.specs.BigEndian.{Bytes}
-use Rattle.format.specs.declared.Refusal.{Refusal}
-use Rattle.format.specs.declared.Refusal.the-variants.{NoneOpen, ListTooLong, FewWorkNumbers, EncodingTooLong}
-use Rattle.format.specs.declared.Written.the-variants.{Done, Refused}
+use Rattle.frames.specs.declared.Refusal.{Refusal}
+use Rattle.frames.specs.declared.Refusal.the-variants.{NoneOpen, ListTooLong, FewWorkNumbers, EncodingTooLong}
+use Rattle.frames.specs.declared.Written.the-variants.{Done, Refused}
 use Rattle.format.specs.Limits.{depthLimit, lengthLimit}
 use Rattle.format.specs.Tree.{Tree}
 use Rattle.format.specs.Encoding.{encoding, sizesOf, WithinLimits}
 use Rattle.format.specs.Mask.{mask, strict}
 use Rattle.format.specs.Reader.{treeOf}
-use Rattle.format.specs.WriteList.{Frames, refused, framed, next, readFrames, only, readList}
-use Rattle.format.specs.Writer.{Outcome, refuse, wrote, outcome, outcomeAfter, Result, zeros, resultOf, written}
+use Rattle.frames.specs.WriteList.{Frames, refused, framed, next, readFrames, only, readList}
+use Rattle.frames.specs.Writer.{Outcome, refuse, wrote, outcome, outcomeAfter, Result, zeros, resultOf, written}
 use Rattle.format.proofs.Spelling.{encoding-passes}
 use Rattle.write.proofs.FrameCases.{never, next-got}
 use Rattle.write.proofs.Described.{frames-within}

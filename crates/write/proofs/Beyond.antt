@@ -14,14 +14,14 @@ use Rattle.number.proofs.VarUIntLaws.{encoded-length}
 use Rattle.format.specs.declared.Kind.{Kind}
 use Rattle.format.specs.declared.Kind.the-variants.{IntegerPositive}
 use Rattle.format.specs.declared.Mark.the-variants.{SharedByItems}
-use Rattle.format.specs.declared.Refusal.the-variants.{NoneOpen}
+use Rattle.frames.specs.declared.Refusal.the-variants.{NoneOpen}
 use Rattle.format.specs.Limits.{depthLimit, lengthLimit}
 use Rattle.format.specs.Kinds.{id, typeByte, isBare, isUniformArray}
 use Rattle.format.specs.Parse.{Out}
 use Rattle.format.specs.Payload.{leaf, payload}
 use Rattle.format.specs.Tree.{Leaf, integer, Node, atom, array, Tree, Within}
 use Rattle.format.specs.Encoding.{concat, leafPayload, arrayBody, kindOf, payloadOf, encoding, WithinLimits}
-use Rattle.format.specs.WriteList.{refused, framed, next, leafFound, frame, FrameReader, readFrames, only, readList}
+use Rattle.frames.specs.WriteList.{refused, framed, next, leafFound, frame, FrameReader, readFrames, only, readList}
 use Rattle.format.proofs.Lists.{bytes-right}
 use Rattle.format.proofs.KindLaws.{same-all}
 use Rattle.write.specs.Container.{nodeOf, namePart}

@@ -6,7 +6,7 @@ use mathlib.Core.Path.{_≡_, refl, ap, _∙_}
 use mathlib.Core.List.{List, [], _∷_, _++_}
 use lib.ListN.{length, getD, drop, set, length-replicate, drop-of-length-le}
 use lib.Seq.{drop-cons, set-at}
-use Rattle.format.specs.Writer.{zeros}
+use Rattle.frames.specs.Writer.{zeros}
 use Rattle.format.proofs.Lists.{append-nil}
 use Rattle.write.specs.Whole.{cleared}
 

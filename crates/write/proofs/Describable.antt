@@ -19,7 +19,7 @@ use Rattle.format.specs.Names.{twins}
 use Rattle.format.specs.Tree.{Float, number, nan32, nan64, Leaf, null, bool, integer, float, binary, string, objectAttachment, binaryAttachment, hash, uuid, objectId, dateTime, timeSpan, customById, customByName, Node, atom, array, object, Tree, LeafWithin, NameWithin, NodeWithin, Within}
 use Rattle.format.specs.Payload.{payload, value, head}
 use Rattle.format.specs.Encoding.{withSize, concat, floatKind, leafKind, leafPayload}
-use Rattle.format.specs.WriteList.{Frames, framed, next, isWritable, frameName, untilClose, framePayload, frame, FrameReader, readFrames, readList}
+use Rattle.frames.specs.WriteList.{Frames, framed, next, isWritable, frameName, untilClose, framePayload, frame, FrameReader, readFrames, readList}
 use Rattle.format.proofs.Lists.{append-nil, length-concat, all-of, all-pure}
 use Rattle.format.proofs.Back.{make-case}
 use Rattle.format.proofs.KindLaws.{known-rt}

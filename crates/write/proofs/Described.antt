@@ -17,14 +17,14 @@ use Rattle.float.specs.Rule.{holds}
 use Rattle.format.specs.declared.Kind.{Kind}
 use Rattle.format.specs.declared.Kind.the-variants.{Float64}
 use Rattle.format.specs.declared.Stop.the-variants.{Early}
-use Rattle.format.specs.declared.Refusal.the-variants.{BadFrame, EmptyName, NameUsed, NotText, NoneOpen}
+use Rattle.frames.specs.declared.Refusal.the-variants.{BadFrame, EmptyName, NameUsed, NotText, NoneOpen}
 use Rattle.format.specs.Kinds.{id, known, any}
 use Rattle.format.specs.Mask.{has}
 use Rattle.format.specs.Names.{readName, twins}
 use Rattle.format.specs.Parse.{Flaw, blank, long, low, wide, notText, Out, fault, got, fixed}
 use Rattle.format.specs.Tree.{number, nan64, Leaf, float, Node, Tree, FloatWithin, LeafWithin, NameWithin, NodeWithin, Within}
 use Rattle.format.specs.Payload.{float64, readFloat64, Payload, leaf, fields, sharedFields, items, sharedItems, payload}
-use Rattle.format.specs.WriteList.{refused, framed, next, frameKind, frameName, nameFound, leafFound, frame, FrameReader, readFrames, only, readList}
+use Rattle.frames.specs.WriteList.{refused, framed, next, frameKind, frameName, nameFound, leafFound, frame, FrameReader, readFrames, only, readList}
 use Rattle.format.proofs.Lists.{all-both, bytes-left, bytes-right}
 use Rattle.format.proofs.Local.{bind-got, raise-got}
 use Rattle.format.proofs.TextLaws.{name-case}

@@ -2,11 +2,11 @@
 use mathlib.Core.Path.{_≡_, sym, ap, _∙_}
 use mathlib.Core.Bool.{Bool}
 use mathlib.Core.List.{List}
-use Rattle.format.specs.declared.Faults.{Faults}
+use Rattle.head.specs.declared.Faults.{Faults}
 use Rattle.format.specs.Parse.{Flaw, blank, long, low, wide, notText}
 use Rattle.format.specs.Mask.{has}
-use Rattle.format.specs.Code.{noted}
-use Rattle.format.proofs.FaultSums.{noted-told}
+use Rattle.head.specs.Code.{noted}
+use Rattle.head.proofs.FaultSums.{noted-told}
 use Rattle.write.specs.Frames.{noFaults, allModes, isLong, isLow, isBlank, isNotText, isWide}
 
 module _ (h : Faults) (fs : List Flaw) (u t : Bool) (e : h ≡ noted allModes noFaults fs) where

@@ -12,14 +12,14 @@ use lib.Dec.{eqb}
 use borrow.Author.Tests.{eqb-true, eqb-false}
 use Rattle.format.specs.declared.Kind.{Kind}
 use Rattle.format.specs.declared.Kind.the-variants.{Null, Object, UniformObject, Array, UniformArray, Binary, String, IntegerPositive, IntegerNegative, Float32, Float64, False, True, ObjectAttachment, BinaryAttachment, Hash, Uuid, DateTime, TimeSpan, ObjectId, CustomById, CustomByName}
-use Rattle.format.specs.declared.Refusal.{Refusal}
-use Rattle.format.specs.declared.Refusal.the-variants.{TooDeep, BadFrame, NotText}
+use Rattle.frames.specs.declared.Refusal.{Refusal}
+use Rattle.frames.specs.declared.Refusal.the-variants.{TooDeep, BadFrame, NotText}
 use Rattle.format.specs.Kinds.{id}
 use Rattle.format.specs.Mask.{has}
 use Rattle.format.specs.Parse.{Flaw, long, low, notText, Out, fault, got}
 use Rattle.format.specs.Payload.{leaf, payload}
 use Rattle.format.specs.Tree.{Leaf, atom, Tree}
-use Rattle.format.specs.WriteList.{Frames, refused, framed, next, isWritable, leafFound, framePayload, FrameReader, readFrames}
+use Rattle.frames.specs.WriteList.{Frames, refused, framed, next, isWritable, leafFound, framePayload, FrameReader, readFrames}
 use Rattle.write.specs.declared.Frame.{Frame}
 use Rattle.write.specs.declared.Frame.the-variants as F
 use Rattle.write.specs.declared.LeafFrame.{LeafFrame}

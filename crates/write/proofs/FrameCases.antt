@@ -21,16 +21,16 @@ use Rattle.format.specs.declared.Kind.{Kind}
 use Rattle.format.specs.declared.Kind.the-variants.{Null, Object, UniformObject, Array, UniformArray, Binary, String, IntegerPositive, IntegerNegative, Float32, Float64, False, True, ObjectAttachment, BinaryAttachment, Hash, Uuid, DateTime, TimeSpan, ObjectId, CustomById, CustomByName}
 use Rattle.format.specs.declared.Known.{Known}
 use Rattle.format.specs.declared.Known.the-variants.{Unknown, Is}
-use Rattle.format.specs.declared.Refusal.{Refusal}
-use Rattle.format.specs.declared.Refusal.the-variants.{BadFrame, EmptyName, NameUsed, NotText}
+use Rattle.frames.specs.declared.Refusal.{Refusal}
+use Rattle.frames.specs.declared.Refusal.the-variants.{BadFrame, EmptyName, NameUsed, NotText}
 use Rattle.format.specs.Kinds.{id, known, any}
 use Rattle.format.specs.Mask.{has}
 use Rattle.format.specs.Parse.{Flaw, long, blank, notText, Out, fault, got}
 use Rattle.format.specs.Names.{isEmpty, readName}
-use Rattle.format.specs.Pieces.{between}
+use Rattle.head.specs.Pieces.{between}
 use Rattle.format.specs.Payload.{payload}
 use Rattle.format.specs.Encoding.{withSize}
-use Rattle.format.specs.WriteList.{Frames, refused, framed, next, isWritable, frameKind, frameName, nameFound, framePayload, frame, FrameReader}
+use Rattle.frames.specs.WriteList.{Frames, refused, framed, next, isWritable, frameKind, frameName, nameFound, framePayload, frame, FrameReader}
 use Rattle.format.proofs.Lists.{bytes-right}
 use Rattle.format.proofs.KindLaws.{known-inv}
 use Rattle.format.proofs.TextLaws.{name-case}

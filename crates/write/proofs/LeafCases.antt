@@ -20,28 +20,28 @@ use Rattle.format.specs.declared.Kind.{Kind}
 use Rattle.format.specs.declared.Kind.the-variants.{Float32, Float64}
 use Rattle.format.specs.declared.Known.the-variants.{Is}
 use Rattle.format.specs.declared.Form.{Form}
-use Rattle.format.specs.declared.Modes.{Modes}
-use Rattle.format.specs.declared.Faults.{Faults}
+use Rattle.head.specs.declared.Modes.{Modes}
+use Rattle.head.specs.declared.Faults.{Faults}
 use Rattle.format.specs.declared.Stop.{Stop}
 use Rattle.format.specs.declared.Stop.the-variants.{Early}
-use Rattle.format.specs.declared.Heading.{Heading}
-use Rattle.format.specs.declared.Heading.the-variants as H
-use Rattle.format.specs.declared.Refusal.the-variants.{BadFrame, NotText}
+use Rattle.head.specs.declared.Heading.{Heading}
+use Rattle.head.specs.declared.Heading.the-variants as H
+use Rattle.frames.specs.declared.Refusal.the-variants.{BadFrame, NotText}
 use Rattle.format.specs.Kinds.{id, known}
 use Rattle.format.specs.Parse.{Flaw, long, low, wide, notText, Out, fault, got, bind, raise, make, fixed}
 use Rattle.format.specs.Mask.{has}
 use Rattle.format.specs.Tree.{number, nan64, Leaf, float}
 use Rattle.format.specs.Payload.{float64, readFloat64, Payload, leaf, fields, sharedFields, items, sharedItems, payload, value, head}
 use Rattle.format.specs.Encoding.{floatKind, floatPayload, leafKind, leafPayload}
-use Rattle.format.specs.WriteList.{leafFound}
-use Rattle.format.specs.Code.{noted, flawIf, answerOf, headingOf, headAt}
-use Rattle.format.specs.Pieces.{between}
+use Rattle.frames.specs.WriteList.{leafFound}
+use Rattle.head.specs.Code.{noted, flawIf, answerOf, headingOf, headAt}
+use Rattle.head.specs.Pieces.{between}
 use Rattle.format.proofs.Lists.{append-nil, bytes-right}
 use Rattle.format.proofs.Local.{with-put}
 use Rattle.format.proofs.KindLaws.{known-rt}
 use Rattle.format.proofs.HeadParts.{local-head}
 use Rattle.format.proofs.Leaves.{OnlyBy, leaf-only}
-use Rattle.format.proofs.MeetCases.{rest-all}
+use Rattle.head.proofs.MeetCases.{rest-all}
 use Rattle.write.specs.declared.LeafFrame.{LeafFrame}
 use Rattle.write.specs.declared.LeafFrame.the-variants as L
 use Rattle.write.specs.Frames.{noFaults, allModes, isLong, isLow, isNotText, isWide, leafMet, leafFrameAt, IsLeaf}

@@ -17,14 +17,14 @@ use Rattle.float.specs.declared.Narrowed.the-variants as N
 use Rattle.format.specs.declared.Kind.{Kind}
 use Rattle.format.specs.declared.Known.{Known}
 use Rattle.format.specs.declared.Known.the-variants.{Unknown, Is}
-use Rattle.format.specs.Code.{headAt}
+use Rattle.head.specs.Code.{headAt}
 use Rattle.format.specs.Kinds.{id, known}
 use Rattle.format.specs.Parse.{Flaw, Out}
 use Rattle.format.specs.Payload.{Payload, leaf, fields, sharedFields, items, sharedItems, payload}
 use Rattle.format.specs.Tree.{Leaf}
 use Rattle.format.specs.Encoding.{leafPayload}
-use Rattle.format.specs.Pieces.{between}
-use Rattle.format.specs.WriteList.{Frames, framed, leafFound}
+use Rattle.head.specs.Pieces.{between}
+use Rattle.frames.specs.WriteList.{Frames, framed, leafFound}
 use Rattle.format.proofs.KindLaws.{known-inv}
 use Rattle.write.specs.declared.Position.{Position}
 use Rattle.write.specs.Frames.{noModes, noFaults, leafBy, leafKnown, leafOf, bitsAt, endIn, endAt}

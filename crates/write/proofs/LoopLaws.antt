@@ -14,12 +14,12 @@ use mir.Syntax.{w64}
 use mir.Val.{Fits}
 use borrow.Author.Tests.{ne-eqb, eqb-true, eqb-false}
 use Rattle.number.specs.VarUInt.{encoded}
-use Rattle.format.specs.declared.Refusal.{Refusal}
-use Rattle.format.specs.declared.Refusal.the-variants.{ListEnds}
+use Rattle.frames.specs.declared.Refusal.{Refusal}
+use Rattle.frames.specs.declared.Refusal.the-variants.{ListEnds}
 use Rattle.format.specs.Kinds.{id}
 use Rattle.format.specs.Tree.{Node, Tree}
 use Rattle.format.specs.Encoding.{concat, nodeKind, nodePayload, kindOf, payloadOf}
-use Rattle.format.specs.WriteList.{Frames, refused, framed, next, readFrames}
+use Rattle.frames.specs.WriteList.{Frames, refused, framed, next, readFrames}
 use Rattle.format.proofs.Lists.{append-nil}
 use Rattle.write.specs.declared.Measured.{Measured}
 use Rattle.write.specs.declared.Measured.the-variants as M

@@ -10,22 +10,22 @@ use mir.Val.{Fits}
 use Rattle.format.specs.declared.Kind.{Kind}
 use Rattle.format.specs.declared.Kind.the-variants.{Null}
 use Rattle.format.specs.declared.Form.the-variants.{SharedField}
-use Rattle.format.specs.declared.Modes.{Modes}
-use Rattle.format.specs.declared.Faults.{Faults}
+use Rattle.head.specs.declared.Modes.{Modes}
+use Rattle.head.specs.declared.Faults.{Faults}
 use Rattle.format.specs.declared.Stop.{Stop}
-use Rattle.format.specs.declared.Front.{Front}
-use Rattle.format.specs.declared.Front.the-variants as F
-use Rattle.format.specs.declared.Refusal.the-variants.{BadFrame, EmptyName, NotText}
+use Rattle.head.specs.declared.Front.{Front}
+use Rattle.head.specs.declared.Front.the-variants as F
+use Rattle.frames.specs.declared.Refusal.the-variants.{BadFrame, EmptyName, NotText}
 use Rattle.format.specs.Parse.{Flaw, blank, long, notText, Out, fault, got, bind}
 use Rattle.format.specs.Mask.{has}
 use Rattle.format.specs.Names.{readName}
 use Rattle.format.specs.Payload.{front}
-use Rattle.format.specs.Code.{noted, answerOf, frontAt}
-use Rattle.format.specs.Pieces.{between}
+use Rattle.head.specs.Code.{noted, answerOf, frontAt}
+use Rattle.head.specs.Pieces.{between}
 use Rattle.format.proofs.Lists.{append-nil}
 use Rattle.format.proofs.Local.{with-put}
 use Rattle.format.proofs.HeadParts.{front-takes}
-use Rattle.format.proofs.MeetCases.{rest-all}
+use Rattle.head.proofs.MeetCases.{rest-all}
 use Rattle.write.specs.declared.Name.the-variants as N
 use Rattle.write.proofs.FaultCases.{long-of, blank-of, not-text-of}
 use Rattle.write.specs.Frames.{noFaults, allModes, isLong, isBlank, isNotText, nameBy, nameAt}

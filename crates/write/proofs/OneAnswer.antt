@@ -5,8 +5,8 @@
 use mathlib.Core.List.{List}
 use Prim.Native.Nat.{ℕ}
 use Rattle.number.proofs.OneAnswer.{One, one}
-use Rattle.format.specs.declared.Refusal.{Refusal}
-use Rattle.format.specs.Writer.{refusalNumber, written}
+use Rattle.frames.specs.declared.Refusal.{Refusal}
+use Rattle.frames.specs.Writer.{refusalNumber, written}
 use Rattle.write.specs.Whole.{cleared}
 
 pub one-answer : (list output work : List ℕ) → One (written list output work)

@@ -19,8 +19,8 @@ use Rattle.format.specs.Parse.{low, Out, got}
 use Rattle.format.specs.Payload.{leaf, fields, items, payload}
 use Rattle.format.specs.Tree.{Leaf, atom, Tree}
 use Rattle.format.specs.Encoding.{withSize, concat, kindOf, payloadOf, sizesOf}
-use Rattle.format.specs.Pieces.{between}
-use Rattle.format.specs.WriteList.{framed, next, isWritable, leafFound, framePayload, readFrames}
+use Rattle.head.specs.Pieces.{between}
+use Rattle.frames.specs.WriteList.{framed, next, isWritable, leafFound, framePayload, readFrames}
 use Rattle.format.proofs.KindLaws.{known-rt}
 use Rattle.write.specs.declared.Position.{Position}
 use Rattle.write.specs.Container.{nodeOf, ids, shared, uniform, containerId, typePart, namePart, body, packed, uniformIn, packsOf}

@@ -27,20 +27,20 @@ use Rattle.format.specs.declared.Known.{Known}
 use Rattle.format.specs.declared.Known.the-variants.{Unknown, Is}
 use Rattle.format.specs.declared.Form.{Form}
 use Rattle.format.specs.declared.Form.the-variants.{SharedField}
-use Rattle.format.specs.declared.Modes.{Modes}
-use Rattle.format.specs.declared.Faults.{Faults}
+use Rattle.head.specs.declared.Modes.{Modes}
+use Rattle.head.specs.declared.Faults.{Faults}
 use Rattle.format.specs.declared.Stop.{Stop}
-use Rattle.format.specs.declared.Front.{Front}
-use Rattle.format.specs.declared.Front.the-variants as F
-use Rattle.format.specs.declared.Heading.{Heading}
-use Rattle.format.specs.declared.Heading.the-variants as H
+use Rattle.head.specs.declared.Front.{Front}
+use Rattle.head.specs.declared.Front.the-variants as F
+use Rattle.head.specs.declared.Heading.{Heading}
+use Rattle.head.specs.declared.Heading.the-variants as H
 use Rattle.format.specs.Kinds.{known}
 use Rattle.format.specs.Parse.{Out, fault, got}
 use Rattle.format.specs.Names.{readName}
 use Rattle.format.specs.Payload.{Head, value, fieldsIn, itemsIn, head}
-use Rattle.format.specs.Code.{answerOf, headingOf, frontAt, headAt}
-use Rattle.format.specs.Pieces.{between}
-use Rattle.format.proofs.MeetCases.{rest-all}
+use Rattle.head.specs.Code.{answerOf, headingOf, frontAt, headAt}
+use Rattle.head.specs.Pieces.{between}
+use Rattle.head.proofs.MeetCases.{rest-all}
 use Rattle.write.specs.Container.{containerId, countPart, typePart}
 use Rattle.write.specs.Frames.{noFaults, noModes, startBy, startAt, bitsAt, finalId, endIn, endAt}
 use Rattle.write.proofs.NameCases.{frontNamed, front-named, name-parts}

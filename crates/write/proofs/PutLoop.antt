@@ -13,7 +13,7 @@ use Rattle.number.specs.BigEndian.{Bytes}
 use Rattle.number.specs.VarUInt.{encoded}
 use Rattle.format.specs.Tree.{atom, array, object, Tree}
 use Rattle.format.specs.Encoding.{concat, kindOf, payloadOf, sizesOf}
-use Rattle.format.specs.WriteList.{framed, next, readFrames}
+use Rattle.frames.specs.WriteList.{framed, next, readFrames}
 use Rattle.format.proofs.Lists.{append-nil}
 use Rattle.write.specs.declared.Position.{Position}
 use Rattle.write.specs.declared.Opened.{Opened}

@@ -7,7 +7,7 @@ use mathlib.Core.List.{List, [], _∷_}
 use lib.ListN.{length, getD}
 use Rattle.text.specs.Equal.{equal}
 use Rattle.format.specs.Kinds.{any}
-use Rattle.format.specs.Pieces.{between}
+use Rattle.head.specs.Pieces.{between}
 use Rattle.write.specs.Frames.{nameIn, usedAt, Stack}
 
 pub used-more : (s names : List ℕ) (base i : ℕ) → base < i → usedAt s names base (i - base) ≡ nameIn s (getD names (i - 1) 0) ∷ usedAt s names base (i - 1 - base)

@@ -11,15 +11,15 @@ use lib.Seq.{set-set, sets, sets-eq}
 use lib.Dec.{ltb, leb}
 use borrow.Author.Tests.{lt-ltb, le-ltb, lt-leb, le-leb, ltb-true, ltb-false, leb-true, leb-false, eq-eqb, ne-eqb}
 use Rattle.number.proofs.ReadLaws.{Known, bytes-of}
-use Rattle.format.specs.declared.Refusal.{Refusal}
-use Rattle.format.specs.declared.Refusal.the-variants.{ListEnds, NoneOpen, Complete, ListTooLong, FewWorkNumbers, EncodingTooLong}
-use Rattle.format.specs.declared.Written.{Written}
-use Rattle.format.specs.declared.Written.the-variants.{Done, Refused}
+use Rattle.frames.specs.declared.Refusal.{Refusal}
+use Rattle.frames.specs.declared.Refusal.the-variants.{ListEnds, NoneOpen, Complete, ListTooLong, FewWorkNumbers, EncodingTooLong}
+use Rattle.frames.specs.declared.Written.{Written}
+use Rattle.frames.specs.declared.Written.the-variants.{Done, Refused}
 use Rattle.format.specs.Kinds.{id}
 use Rattle.format.specs.Tree.{Tree}
 use Rattle.format.specs.Encoding.{kindOf, payloadOf, encoding, sizesOf}
-use Rattle.format.specs.WriteList.{Frames, refused, framed, next, readFrames, only, readList}
-use Rattle.format.specs.Writer.{outcomeOf, outcomeAfter, outcome, zeros, resultOf, written}
+use Rattle.frames.specs.WriteList.{Frames, refused, framed, next, readFrames, only, readList}
+use Rattle.frames.specs.Writer.{outcomeOf, outcomeAfter, outcome, zeros, resultOf, written}
 use Rattle.write.specs.declared.Measured.{Measured}
 use Rattle.write.specs.declared.Measured.the-variants as M
 use Rattle.write.specs.declared.Position.{Position}

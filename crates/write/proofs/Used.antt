@@ -16,14 +16,14 @@ use Rattle.float.specs.Width.{narrow}
 use Rattle.format.specs.declared.Kind.{Kind}
 use Rattle.format.specs.declared.Kind.the-variants.{Null, Object, UniformObject, Array, UniformArray, Binary, String, IntegerPositive, IntegerNegative, Float32, Float64, False, True, ObjectAttachment, BinaryAttachment, Hash, Uuid, DateTime, TimeSpan, ObjectId, CustomById, CustomByName}
 use Rattle.format.specs.declared.Known.the-variants.{Is}
-use Rattle.format.specs.declared.Refusal.the-variants.{BadFrame, NotText}
+use Rattle.frames.specs.declared.Refusal.the-variants.{BadFrame, NotText}
 use Rattle.format.specs.Kinds.{id, known}
 use Rattle.format.specs.Mask.{has}
 use Rattle.format.specs.Parse.{Flaw, long, low, notText, Out, fault, got}
 use Rattle.format.specs.Payload.{Payload, leaf, fields, sharedFields, items, sharedItems, payload}
 use Rattle.format.specs.Tree.{Leaf, Node, atom}
 use Rattle.format.specs.Encoding.{concat, leafPayload, nodeKind, nodePayload, kindOf, payloadOf}
-use Rattle.format.specs.WriteList.{refused, framed, next, isWritable, leafFound, framePayload, frame, FrameReader, readFrames}
+use Rattle.frames.specs.WriteList.{refused, framed, next, isWritable, leafFound, framePayload, frame, FrameReader, readFrames}
 use Rattle.format.proofs.Lists.{bytes-right}
 use Rattle.format.proofs.KindLaws.{known-rt}
 use Rattle.write.specs.Container.{nodeOf, ids, shared, namePart, body, nodePacks, packsOf}

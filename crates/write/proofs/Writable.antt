@@ -8,15 +8,15 @@ use borrow.Author.Tests.{le-ltb}
 use Rattle.number.specs.BigEndian.{All, Bytes}
 use Rattle.format.specs.declared.Form.the-variants.{Top}
 use Rattle.format.specs.declared.Kind.{Kind}
-use Rattle.format.specs.declared.Written.the-variants.{Done}
+use Rattle.frames.specs.declared.Written.the-variants.{Done}
 use Rattle.format.specs.Limits.{depthLimit, lengthLimit}
 use Rattle.format.specs.Kinds.{id}
 use Rattle.format.specs.Parse.{Out, got}
 use Rattle.format.specs.Reader.{Standing, Named, Layout, tree, read}
 use Rattle.format.specs.Tree.{Leaf, string, atom, array, object, Tree, LeafWithin, NameWithin, NodeWithin, Within}
 use Rattle.format.specs.Encoding.{withSize, concat, leafKind, leafPayload, kindOf, encoding, sizesOf, WithinLimits}
-use Rattle.format.specs.WriteList.{framed, readList}
-use Rattle.format.specs.Writer.{wrote, outcome, Result, resultOf, written}
+use Rattle.frames.specs.WriteList.{framed, readList}
+use Rattle.frames.specs.Writer.{wrote, outcome, Result, resultOf, written}
 use Rattle.format.proofs.BytesOf.{bytes-of-encoding}
 use Rattle.format.proofs.Spelling.{reading-gives-back}
 use Rattle.write.specs.Describe.{close, nodeFrames, framesOf, listOf}

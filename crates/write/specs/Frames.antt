@@ -9,14 +9,14 @@ use lib.Dec.{eqb, ltb}
 use Rattle.format.specs.declared.Kind.{Kind}
 use Rattle.format.specs.declared.Known.{Known}
 use Rattle.format.specs.declared.Known.the-variants.{Unknown, Is}
-use Rattle.format.specs.declared.Modes.{Modes}
-use Rattle.format.specs.declared.Faults.{Faults}
-use Rattle.format.specs.declared.Refusal.the-variants.{BadFrame, EmptyName, NotText}
-use Rattle.format.specs.declared.Heading.{Heading}
-use Rattle.format.specs.declared.Heading.the-variants as H
+use Rattle.head.specs.declared.Modes.{Modes}
+use Rattle.head.specs.declared.Faults.{Faults}
+use Rattle.frames.specs.declared.Refusal.the-variants.{BadFrame, EmptyName, NotText}
+use Rattle.head.specs.declared.Heading.{Heading}
+use Rattle.head.specs.declared.Heading.the-variants as H
 use Rattle.number.specs.BigEndian.{fromBytes}
 use Rattle.float.specs.Rule.{holds}
-use Rattle.format.specs.Code.{nothing, isNoted, headAt}
+use Rattle.head.specs.Code.{nothing, isNoted, headAt}
 use Rattle.format.specs.Kinds.{id, known}
 use Rattle.format.specs.Mask.{has}
 use Rattle.format.specs.Parse.{Out, fault, got, blank, long, low, wide, notText}
@@ -24,7 +24,7 @@ use Rattle.format.specs.Names.{readName}
 use Rattle.format.specs.Payload.{Payload, leaf, fields, sharedFields, items, sharedItems, payload}
 use Rattle.format.specs.Tree.{Leaf, Node}
 use Rattle.format.specs.Encoding.{leafKind, leafPayload}
-use Rattle.format.specs.WriteList.{Frames, refused, framed, next, frameKind, frameName, nameFound, leafFound, untilClose, FrameReader}
+use Rattle.frames.specs.WriteList.{Frames, refused, framed, next, frameKind, frameName, nameFound, leafFound, untilClose, FrameReader}
 use Rattle.write.specs.declared.Name.{Name}
 use Rattle.write.specs.declared.Name.the-variants as N
 use Rattle.write.specs.declared.Frame.{Frame}

@@ -10,7 +10,7 @@ use Rattle.number.specs.VarUInt.{encoded}
 use Rattle.format.specs.Kinds.{id}
 use Rattle.format.specs.Tree.{Leaf, Tree}
 use Rattle.format.specs.Encoding.{leafPayload, kindOf, payloadOf, sizesOf}
-use Rattle.format.specs.WriteList.{Frames, refused, framed, readFrames}
+use Rattle.frames.specs.WriteList.{Frames, refused, framed, readFrames}
 use Rattle.write.specs.declared.Measured.{Measured}
 use Rattle.write.specs.declared.Measured.the-variants as M
 use Rattle.write.specs.declared.LeafFrame.{LeafFrame}

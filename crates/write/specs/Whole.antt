@@ -4,11 +4,11 @@ use mathlib.Core.List.{List}
 use mathlib.Core.Bool.{cond}
 use lib.ListN.{length}
 use lib.Dec.{ltb, leb}
-use Rattle.format.specs.declared.Refusal.the-variants.{Complete, FewWorkNumbers, EncodingTooLong}
-use Rattle.format.specs.declared.Written.{Written}
-use Rattle.format.specs.declared.Written.the-variants.{Done, Refused}
-use Rattle.format.specs.WriteList.{readList}
-use Rattle.format.specs.Writer.{Result, zeros, outcomeAfter, resultOf}
+use Rattle.frames.specs.declared.Refusal.the-variants.{Complete, FewWorkNumbers, EncodingTooLong}
+use Rattle.frames.specs.declared.Written.{Written}
+use Rattle.frames.specs.declared.Written.the-variants.{Done, Refused}
+use Rattle.frames.specs.WriteList.{readList}
+use Rattle.frames.specs.Writer.{Result, zeros, outcomeAfter, resultOf}
 use Rattle.write.specs.declared.Measured.{Measured}
 use Rattle.write.specs.declared.Measured.the-variants as M
 

@@ -1,14 +1,13 @@
 // The writer ("The write list"). The first pass checks every frame and settles the containers' sizes and all IDs: it cannot reach the output. The
 // second pass cannot fail: it writes the encoding from front to back, by the numbers that the first one left.
-use format::Faults;
-use format::Front;
-use format::Heading;
 use format::Kind;
 use format::Known;
-use format::Modes;
-use format::Place;
-use format::Refusal;
-use format::Written;
+use frames::Refusal;
+use frames::Written;
+use head::Faults;
+use head::Front;
+use head::Heading;
+use head::Modes;
 ghost use mathlib.Core.Path.{_≡_};
 ghost use mathlib.Core.List.{_++_};
 ghost use Prim.Native.Nat.{_+_, _-_, _*_, _≤_, _<_};
@@ -19,8 +18,8 @@ ghost use Rattle.number.specs.VarUInt.{encoded};
 ghost use Rattle.text.specs.Equal.{equal};
 ghost use Rattle.format.specs.Kinds.{any};
 ghost use Rattle.format.specs.Payload.{payload};
-ghost use Rattle.format.specs.Pieces.{between};
-ghost use Rattle.format.specs.Writer.{written, refusalNumber};
+ghost use Rattle.head.specs.Pieces.{between};
+ghost use Rattle.frames.specs.Writer.{written, refusalNumber};
 ghost use Rattle.write.specs.Container.{join, uniform, countPart, containerId, sizeBy, packed, typePart};
 ghost use Rattle.write.specs.Frames.{noFaults, allModes, noModes, isLong, isLow, isBlank, isNotText, isWide, writable, nameAt, usedAt, Stack, NamedAt, FrameAt, IsLeaf, leafFrameAt, startAt, bitsAt, finalId, endAt};
 ghost use Rattle.write.specs.Passes.{leafMeasured, LeafSmall, FieldAt, ContentsAt, Lent, LeafReady, LeafMakes, CanOpen, HasOpened, FieldReady, FieldMakes, ContentsReady, ContentsMakes};
@@ -31,7 +30,7 @@ ghost use Rattle.write.specs.Whole.{cleared, result, decidedOf, idIn, wr
 fn no_faults() -> Faults
     ensures { λ r. ⌜ r ≡ noFaults ⌝ }
 {
-    format::no_faults()
+    head::no_faults()
 }
 
 fn all_modes() -> Modes
@@ -55,31 +54,31 @@ fn no_modes() -> Modes
 fn is_long(faults: Faults) -> bool
     ensures { λ r. ⌜ r ≡ isLong faults ⌝ }
 {
-    format::is_long(faults)
+    head::is_long(faults)
 }
 
 fn is_low(faults: Faults) -> bool
     ensures { λ r. ⌜ r ≡ isLow faults ⌝ }
 {
-    format::is_low(faults)
+    head::is_low(faults)
 }
 
 fn is_blank(faults: Faults) -> bool
     ensures { λ r. ⌜ r ≡ isBlank faults ⌝ }
 {
-    format::is_blank(faults)
+    head::is_blank(faults)
 }
 
 fn is_not_text(faults: Faults) -> bool
     ensures { λ r. ⌜ r ≡ isNotText faults ⌝ }
 {
-    format::is_not_text(faults)
+    head::is_not_text(faults)
 }
 
 fn is_wide(faults: Faults) -> bool
     ensures { λ r. ⌜ r ≡ isWide faults ⌝ }
 {
-    format::is_wide(faults)
+    head::is_wide(faults)
 }
 
 // ---- a frame: its kind and its name
@@ -108,7 +107,7 @@ fn name_of(list: &[u8], at: usize, kind: Kind) -> Name
     requires { ⌜ (at ≤ length (now list)) × (length (now list) ≤ 65536) ⌝ }
     ensures { λ r. ⌜ r ≡ nameAt (now (list .entry)) at ⌝ }
 {
-    match format::name_of(&list[at..], kind, all_modes(), no_faults()) {
+    match head::name_of(&list[at..], kind, all_modes(), no_faults()) {
         Front::Stop(stop) => Name::Refused(Refusal::BadFrame),
         Front::Read {
             kind: _,
@@ -229,7 +228,7 @@ fn leaf_at(list: &[u8], at: usize, kind: Kind) -> LeafFrame
     requires { ⌜ (at ≤ length (now list)) × (length (now list) ≤ 65536) × Bytes (now list) × IsLeaf (payload kind) ⌝ }
     ensures { λ r. ⌜ r ≡ leafFrameAt kind (now (list .entry)) at ⌝ }
 {
-    match format::head_of(&list[at..], kind, all_modes(), no_faults()) {
+    match head::head_of(&list[at..], kind, all_modes(), no_faults()) {
         Heading::Stop(stop) => LeafFrame::Refused(Refusal::BadFrame),
         Heading::Leaf { end, faults } => {
             if is_long(faults) {
@@ -559,7 +558,7 @@ fn start_of(list: &[u8], at: usize, named: bool) -> usize
 {
     if named {
         let from = at + 1;
-        return match format::name_of(&list[from..], Kind::Null, no_modes(), no_faults()) {
+        return match head::name_of(&list[from..], Kind::Null, no_modes(), no_faults()) {
             Front::Stop(stop) => from,
             Front::Read {
                 kind: _,
@@ -652,7 +651,7 @@ fn leaf_end(list: &[u8], at: usize, b: u8) -> usize
 {
     match format::known_of(b) {
         Known::Unknown => at,
-        Known::Is(kind) => match format::head_of(&list[at..], kind, no_modes(), no_faults()) {
+        Known::Is(kind) => match head::head_of(&list[at..], kind, no_modes(), no_faults()) {
             Heading::Stop(stop) => at,
             Heading::Leaf { end, faults: _ } => at + end,
             Heading::Fields {
@@ -916,16 +915,16 @@ fn write_within(
 pub fn write(list: &[u8], out: &mut [u8], work: &mut [u32]) -> Written
     ensures { λ r. ⌜ record { answer = r; output = now (out .exit); work = now (work .exit) } ≡ written (now (list .entry)) (now (out .entry)) (now (work .entry)) ⌝ }
 {
-    if Place::LENGTH < list.len() {
+    if format::LENGTH < list.len() {
         clear(work);
         return Written::Refused(Refusal::ListTooLong, 0);
     }
     if list.len() <= 1536 {
         let mut names = [0u32; 512];
-        return write_within(list, out, work, &mut names, Place::DEPTH);
+        return write_within(list, out, work, &mut names, format::DEPTH);
     }
     let mut names = [0u32; 21846];
-    write_within(list, out, work, &mut names, Place::DEPTH)
+    write_within(list, out, work, &mut names, format::DEPTH)
 }
 
 // The number of a refusal ("The write list").

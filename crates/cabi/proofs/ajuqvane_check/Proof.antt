@@ -8,7 +8,7 @@ use Rattle.read.proofs.checked.Reads as checked-reads
 use Rattle.validate.proofs.stop_value.Reads as stop-value-reads
 use borrow.Author.Needs.{needs}
 use mathlib.Core.Path.{sym, ap, _∙_}
-use Rattle.format.specs.Places.{checked}
+use Rattle.places.specs.Places.{checked}
 use Rattle.cabi.specs.Reply.{checkedReply}
 
 pub ajuqvane-check-spec : {M : Type 1} → statement M

@@ -10,7 +10,7 @@ use borrow.Author.Needs.{needs}
 use mathlib.Core.Path.{ap, _∙_}
 use lib.ListN.{set}
 use Rattle.cabi.specs.Number.{afterwards}
-use Rattle.format.specs.Values.{double}
+use Rattle.places.specs.Values.{double}
 use Rattle.cabi.specs.Reply.{doubleReply, placeOf}
 use Rattle.cabi.proofs.ReplyLaws.{reply-few, reply}
 

@@ -11,7 +11,7 @@ use borrow.Author.Needs.{needs}
 use mathlib.Core.Path.{ap, _∙_}
 use lib.ListN.{set}
 use Rattle.cabi.specs.Number.{afterwards}
-use Rattle.format.specs.Places.{lookup}
+use Rattle.places.specs.Places.{lookup}
 use Rattle.cabi.specs.Reply.{foundReply, placeOf}
 use Rattle.cabi.proofs.ReplyLaws.{reply-few, reply}
 

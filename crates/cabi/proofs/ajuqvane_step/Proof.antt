@@ -12,7 +12,7 @@ use borrow.Author.Needs.{needs}
 use mathlib.Core.Path.{ap, _∙_}
 use lib.ListN.{set}
 use Rattle.cabi.specs.Number.{afterwards}
-use Rattle.format.specs.Places.{step}
+use Rattle.places.specs.Places.{step}
 use Rattle.cabi.specs.Reply.{stepReply, placeOf, afterOf}
 use Rattle.cabi.proofs.ReplyLaws.{reply-few, reply}
 

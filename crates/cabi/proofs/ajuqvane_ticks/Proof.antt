@@ -11,7 +11,7 @@ use borrow.Author.Needs.{needs}
 use mathlib.Core.Path.{ap, _∙_}
 use lib.ListN.{set}
 use Rattle.cabi.specs.Number.{afterwards}
-use Rattle.format.specs.Values.{ticks}
+use Rattle.places.specs.Values.{ticks}
 use Rattle.cabi.specs.Reply.{ticksReply, placeOf}
 use Rattle.cabi.proofs.ReplyLaws.{reply-few, reply}
 use mir.Syntax.{w64}

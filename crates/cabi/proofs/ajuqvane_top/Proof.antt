@@ -4,13 +4,13 @@ use Rattle.cabi.proofs.ajuqvane_top.Tie as tie
 use Rattle.cabi.proofs.ajuqvane_top.Reads as reads
 use Rattle.cabi.proofs.ajuqvane_top.Lts as lts
 use Rattle.cabi.proofs.store_place.Reads as store-place-reads
-use Rattle.format.proofs.Place.top.Reads as top-reads
+use Rattle.places.proofs.Place.top.Reads as top-reads
 use Rattle.validate.proofs.stop_value.Reads as stop-value-reads
 use borrow.Author.Needs.{needs}
 use mathlib.Core.Path.{ap, _∙_}
 use lib.ListN.{set}
 use Rattle.cabi.specs.Number.{afterwards}
-use Rattle.format.specs.Places.{top}
+use Rattle.places.specs.Places.{top}
 use Rattle.cabi.specs.Reply.{topReply}
 use Rattle.cabi.proofs.ReplyLaws.{reply-few, reply}
 

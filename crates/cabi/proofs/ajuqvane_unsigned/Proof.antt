@@ -10,7 +10,7 @@ use borrow.Author.Needs.{needs}
 use mathlib.Core.Path.{ap, _∙_}
 use lib.ListN.{set}
 use Rattle.cabi.specs.Number.{afterwards}
-use Rattle.format.specs.Values.{unsigned}
+use Rattle.places.specs.Values.{unsigned}
 use Rattle.cabi.specs.Reply.{unsignedReply, placeOf}
 use Rattle.cabi.proofs.ReplyLaws.{reply-few, reply}
 

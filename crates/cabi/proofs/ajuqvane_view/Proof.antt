@@ -10,7 +10,7 @@ use borrow.Author.Needs.{needs}
 use mathlib.Core.Path.{ap, _∙_}
 use lib.ListN.{set}
 use Rattle.cabi.specs.Number.{afterwards}
-use Rattle.format.specs.Places.{part}
+use Rattle.places.specs.Places.{part}
 use Rattle.cabi.specs.Reply.{partReply, placeOf}
 use Rattle.cabi.proofs.ReplyLaws.{reply-few, reply}
 

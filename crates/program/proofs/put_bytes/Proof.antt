@@ -6,7 +6,7 @@ use mathlib.Core.Path.{_≡_, refl, _∙_}
 use lib.ListN.{length, take, length-set}
 use lib.Seq.{sets}
 use Rattle.format.specs.Encoding.{concat}
-use Rattle.format.specs.Program.{hexByte}
+use Rattle.frames.specs.Program.{hexByte}
 use Rattle.program.proofs.put_bytes.Statement.{statement}
 use Rattle.program.proofs.put_bytes.Tie as tie
 use Rattle.program.proofs.put_bytes.Reads as reads

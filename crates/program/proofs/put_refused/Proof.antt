@@ -7,7 +7,7 @@ use Rattle.program.proofs.put_refused.Lts as lts
 use Rattle.program.proofs.put_decimal.Reads as put-decimal-reads
 use Rattle.program.proofs.put_word.Reads as put-word-reads
 use mathlib.Core.List.{_++_}
-use Rattle.format.specs.Program.{wordRefused, wordAt, lineEnd, decimal}
+use Rattle.frames.specs.Program.{wordRefused, wordAt, lineEnd, decimal}
 use Rattle.program.proofs.TextLaws.{put-then, put-next, put-length}
 
 pub put-refused-spec : {M : Type 1} → statement M

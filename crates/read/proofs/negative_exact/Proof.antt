@@ -9,8 +9,8 @@ use borrow.Author.Needs.{needs}
 use mathlib.Core.Path.{ap, _∙_}
 use mir.Syntax.{w64}
 use mir.ValLaws.{toZ-ofZ}
-use Rattle.format.specs.Values.{doubleOf}
-use Rattle.format.specs.Values as values
+use Rattle.places.specs.Values.{doubleOf}
+use Rattle.places.specs.Values as values
 use Rattle.read.proofs.ValueLaws.{negative-is, negative-past, negative-far}
 
 pub negative-exact-spec : {M : Type 1} → statement M

@@ -8,7 +8,7 @@ use borrow.Author.Needs.{needs}
 use mathlib.Core.Path.{ap, _∙_}
 use mir.Syntax.{w64}
 use mir.ValLaws.{toZ-ofZ}
-use Rattle.format.specs.declared.Signed.the-variants as I
+use Rattle.places.specs.declared.Signed.the-variants as I
 use Rattle.read.proofs.ValueLaws.{negative-is, negative-past, negative-low, negative-signed}
 
 pub negative-signed-spec : {M : Type 1} → statement M

@@ -7,7 +7,7 @@ use borrow.Author.Needs.{needs}
 use mathlib.Core.Path.{ap, _∙_}
 use mir.Syntax.{w64}
 use mir.ValLaws.{toZ-pos}
-use Rattle.format.specs.declared.Signed.the-variants as I
+use Rattle.places.specs.declared.Signed.the-variants as I
 use Rattle.read.proofs.ValueLaws.{signed-past, signed-within}
 
 pub positive-signed-spec : {M : Type 1} → statement M

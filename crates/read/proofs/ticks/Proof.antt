@@ -8,7 +8,7 @@ use borrow.Author.Needs.{needs}
 use mathlib.Core.Path.{ap, _∙_}
 use mir.Syntax.{w64}
 use mir.ValLaws.{toZ-ofZ}
-use Rattle.format.specs.declared.Ticks.the-variants as T
+use Rattle.places.specs.declared.Ticks.the-variants as T
 use Rattle.read.proofs.ValueLaws.{ticks-is}
 
 pub ticks-spec : {M : Type 1} → statement M

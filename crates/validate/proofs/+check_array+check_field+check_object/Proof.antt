@@ -10,7 +10,7 @@ use Rattle.validate.proofs.+check_array+check_field+check_object.Lts-ch
 use Rattle.validate.proofs.check_object.Reads as check-object
 use Rattle.validate.proofs.check_object.Kinds as check-object-kinds
 use Rattle.validate.proofs.+check_array+check_field+check_object.Lts-check_object as check-object-lts
-use Rattle.format.proofs.meet_of.Reads as meet-of-reads
+use Rattle.head.proofs.meet_of.Reads as meet-of-reads
 use Rattle.validate.proofs.item_size.Reads as item-size-reads
 use Rattle.validate.proofs.check_sizes.Reads as check-sizes-reads
 use Rattle.validate.proofs.add.Reads as add-reads

@@ -1,0 +1,3 @@
+pub mod WriteList
+pub mod Writer
+pub mod Program

@@ -1,0 +1,238 @@
+-- What the code of a head knows at each return, and what it answers there.
+use Prim.Native.Nat.{ℕ, suc, _+_, _-_, _^_, _≤_, _<_}
+use native.Mathlib.Omega.{arith}
+use mathlib.Core.Path.{_≡_, refl, sym, _∙_}
+use mathlib.Core.Bool.{Bool, true, false, not, cond}
+use mathlib.Core.List.{List, [], _∷_}
+use lib.ListN.{length, take, drop, getD}
+use lib.Seq.{drop-cons, drop-drop}
+use lib.Dec.{ltb}
+use borrow.Author.Tests.{lt-ltb, le-ltb}
+use Rattle.number.specs.BigEndian.{fromBytes}
+use Rattle.number.specs.VarUInt.{varUInt}
+use Rattle.number.specs.Fixed.{fixed64}
+use Rattle.number.specs.declared.VarUInt.{VarUInt}
+use Rattle.number.specs.declared.VarUInt.the-variants as N
+use Rattle.number.specs.declared.Fixed64.{Fixed64}
+use Rattle.number.specs.declared.Fixed64.the-variants as X
+use Rattle.number.proofs.VarUIntLaws.{var-range}
+use Rattle.float.specs.Rule.{holds}
+use Rattle.format.specs.declared.Kind.{Kind}
+use Rattle.format.specs.declared.Known.{Known}
+use Rattle.format.specs.declared.Known.the-variants as W
+use Rattle.format.specs.declared.Mark.the-variants.{SharedByFields, SharedByItems}
+use Rattle.format.specs.declared.Form.the-variants.{Field, Item, SharedField, SharedItem}
+use Rattle.format.specs.declared.Stop.{Stop}
+use Rattle.format.specs.declared.Stop.the-variants.{Early, Unknown, BadUniform}
+use Rattle.head.specs.declared.Modes.{Modes}
+use Rattle.head.specs.declared.Faults.{Faults}
+use Rattle.head.specs.declared.Span.{Span}
+use Rattle.head.specs.declared.Span.the-variants as P
+use Rattle.head.specs.declared.Heading.{Heading}
+use Rattle.head.specs.declared.Heading.the-variants as H
+use Rattle.head.specs.declared.Class.{Class}
+use Rattle.head.specs.declared.Class.the-variants as C
+use Rattle.head.specs.declared.Inner.{Inner}
+use Rattle.head.specs.declared.Inner.the-variants as I
+use Rattle.format.specs.Kinds.{kindAt, isBare}
+use Rattle.format.specs.Parse.{long, low, wide}
+use Rattle.head.specs.Code.{noted, flawIf, headAt}
+use Rattle.head.specs.Pieces.{between, spanAt, textAt, classOf, fixedSize, fixedAt, positiveOf, negativeOf, doubleAt, leafOf, idOf, nameOf, countOf, sharedFieldsOf, sharedItemsOf, sharedCountOf, insideOf, headBy}
+use Rattle.format.proofs.Lists.{drop-take}
+use Rattle.head.proofs.HeadLaws.{part-length, head-is}
+
+-- ---- leaves
+
+pub fixed-short : (n : ℕ) (g : Faults) (s : List ℕ) → length s < n → H.Stop Early ≡ fixedAt n g s
+unfolding fixedAt
+fixed-short n g s l = rw (lt-ltb (length s) n l)
+
+pub fixed-long : (n : ℕ) (g : Faults) (s : List ℕ) → n ≤ length s → H.Leaf n g ≡ fixedAt n g s
+unfolding fixedAt
+fixed-long n g s l = rw (le-ltb (length s) n l)
+
+module _ (m : Modes) (g : Faults) (t : List ℕ) (x : VarUInt) (e : x ≡ varUInt t) where
+  pub positive-cut : x ≡ N.Cut → H.Stop Early ≡ positiveOf m g (varUInt t)
+  positive-cut z = rw (← e, z)
+
+  pub positive-whole : (v n : ℕ) (u : Bool) (h : Faults) → x ≡ N.Whole v n u → h ≡ noted m g (flawIf (not u) long) → H.Leaf n h ≡ positiveOf m g (varUInt t)
+  positive-whole v n u h z w = rw (← e, z, w)
+
+  pub negative-cut : x ≡ N.Cut → H.Stop Early ≡ negativeOf m g (varUInt t)
+  negative-cut z = rw (← e, z)
+
+  pub negative-whole : (v n : ℕ) (u : Bool) (h f : Faults) → x ≡ N.Whole v n u → h ≡ noted m g (flawIf (not u) long) → f ≡ noted m h (flawIf (not (ltb v (2 ^ 63))) low) → H.Leaf n f ≡ negativeOf m g (varUInt t)
+  negative-whole v n u h f z w y = rw (← e, z, y, w)
+
+  pub id-cut : (b : ℕ) → x ≡ N.Cut → H.Stop Early ≡ idOf m g b (varUInt t)
+  id-cut b z = rw (← e, z)
+
+  pub id-whole : (b v n : ℕ) (u : Bool) (h : Faults) → x ≡ N.Whole v n u → h ≡ noted m g (flawIf (not u) long) → H.Leaf b h ≡ idOf m g b (varUInt t)
+  id-whole b v n u h z w = rw (← e, z, w)
+
+  pub count-cut : (a b : ℕ) → x ≡ N.Cut → H.Stop Early ≡ countOf m g a b (varUInt t)
+  count-cut a b z = rw (← e, z)
+
+  pub count-whole : (a b v n : ℕ) (u : Bool) (h : Faults) → x ≡ N.Whole v n u → h ≡ noted m g (flawIf (not u) long) → H.Items Item v (a + n) b h ≡ countOf m g a b (varUInt t)
+  count-whole a b v n u h z w = rw (← e, z, w)
+
+  pub shared-cut : (a b : ℕ) → x ≡ N.Cut → H.Stop Early ≡ sharedCountOf m g a b t (varUInt t)
+  shared-cut a b z = rw (← e, z)
+
+module _ (m : Modes) (g : Faults) (s : List ℕ) (x : Fixed64) (e : x ≡ fixed64 s) where
+  pub double-cut : x ≡ X.Cut → H.Stop Early ≡ doubleAt m g s
+  double-cut z = at (ltb (length s) 8) refl (sym z ∙ e)
+    where
+      at : (c : Bool) → ltb (length s) 8 ≡ c → X.Cut ≡ cond c X.Cut (X.Whole (fromBytes (take 8 s))) → H.Stop Early ≡ cond (ltb (length s) 8) (H.Stop Early) (H.Leaf 8 (noted m g (flawIf (holds (fromBytes (take 8 s))) wide)))
+      at true t y = rw t
+      at false t y = absurd (let q : _≡_ {A = ℕ} 0 1 = cc in omega arith)
+
+  pub double-whole : (b : ℕ) (u : Bool) (h : Faults) → x ≡ X.Whole b → u ≡ holds b → h ≡ noted m g (flawIf u wide) → H.Leaf 8 h ≡ doubleAt m g s
+  double-whole b u h z w y = at (ltb (length s) 8) refl (sym z ∙ e)
+    where
+      at : (c : Bool) → ltb (length s) 8 ≡ c → X.Whole b ≡ cond c X.Cut (X.Whole (fromBytes (take 8 s))) → H.Leaf 8 h ≡ cond (ltb (length s) 8) (H.Stop Early) (H.Leaf 8 (noted m g (flawIf (holds (fromBytes (take 8 s))) wide)))
+      at true t y = absurd (let q : _≡_ {A = ℕ} 0 1 = cc in omega arith)
+      at false t q = let p : b ≡ fromBytes (take 8 s) = cc in rw (t, y, w, p)
+
+module _ (x y : Span) (e : x ≡ y) where
+  pub leaf-stop : (j : Stop) → x ≡ P.Stop j → H.Stop j ≡ leafOf y
+  leaf-stop j z = rw (← e, z)
+
+  pub leaf-part : (a b : ℕ) (h : Faults) → x ≡ P.Part a b h → H.Leaf b h ≡ leafOf y
+  leaf-part a b h z = rw (← e, z)
+
+  pub name-stop : (b : ℕ) (j : Stop) → x ≡ P.Stop j → H.Stop j ≡ nameOf b y
+  name-stop b j z = rw (← e, z)
+
+  pub name-part : (b c d : ℕ) (h : Faults) → x ≡ P.Part c d h → H.Leaf b h ≡ nameOf b y
+  name-part b c d h z = rw (← e, z)
+
+-- ---- a shared byte
+
+part-cons : (a b : ℕ) (s : List ℕ) → a < b → b ≤ length s → between a b s ≡ getD s a 0 ∷ between (suc a) b s
+part-cons a b s l w =
+    let n : b - a ≡ suc (b - suc a) = omega arith in
+    rw (n, drop-cons s a 0 (omega arith))
+
+part-none : (a b : ℕ) (s : List ℕ) → a ≡ b → between a b s ≡ []
+part-none a b s e = let n : b - a ≡ 0 = omega arith in rw n
+
+module _ (g : Faults) (a b : ℕ) (s : List ℕ) where
+  pub fields-none : a ≡ b → H.Stop Early ≡ sharedFieldsOf g a b (between a b s)
+  fields-none e = rw (part-none a b s e)
+
+  pub items-none : (n : ℕ) → a ≡ b → H.Stop Early ≡ sharedItemsOf g n a b (between a b s)
+  items-none n e = rw (part-none a b s e)
+
+  module _ (o : Known) (l : a ≡ b → ⊥) (i : a ≤ b) (w : b ≤ length s) where
+    less : a < b
+    less = omega arith
+
+    pub fields-unknown : o ≡ kindAt SharedByFields (getD s a 0) → o ≡ W.Unknown → H.Stop Unknown ≡ sharedFieldsOf g a b (between a b s)
+    fields-unknown e z = rw (part-cons a b s less w, ← e, z)
+
+    pub fields-bad : (k : Kind) → o ≡ kindAt SharedByFields (getD s a 0) → o ≡ W.Is k → b - a < 2 → H.Stop BadUniform ≡ sharedFieldsOf g a b (between a b s)
+    fields-bad k e z y = rw (part-cons a b s less w, ← e, z, lt-ltb (b - a) 2 y)
+
+    pub fields-good : (k : Kind) → o ≡ kindAt SharedByFields (getD s a 0) → o ≡ W.Is k → 2 ≤ b - a → H.Fields (SharedField k) (a + 1) b g ≡ sharedFieldsOf g a b (between a b s)
+    fields-good k e z y = rw (part-cons a b s less w, ← e, z, le-ltb (b - a) 2 y)
+
+    module _ (n : ℕ) (e : o ≡ kindAt SharedByItems (getD s a 0)) where
+      pub items-unknown : o ≡ W.Unknown → H.Stop Unknown ≡ sharedItemsOf g n a b (between a b s)
+      items-unknown z = rw (part-cons a b s less w, ← e, z)
+
+      module _ (k : Kind) (z : o ≡ W.Is k) where
+        pub items-zero : n < 1 → H.Stop BadUniform ≡ sharedItemsOf g n a b (between a b s)
+        items-zero y = rw (part-cons a b s less w, ← e, z, lt-ltb n 1 y)
+
+        pub items-bare : (u : Bool) → 1 ≤ n → u ≡ isBare k → u ≡ true → H.Stop BadUniform ≡ sharedItemsOf g n a b (between a b s)
+        items-bare u y p q = rw (part-cons a b s less w, ← e, z, le-ltb n 1 y, ← p, q)
+
+        pub items-good : (u : Bool) → 1 ≤ n → u ≡ isBare k → u ≡ false → H.Items (SharedItem k) n (a + 1) b g ≡ sharedItemsOf g n a b (between a b s)
+        items-good u y p q = rw (part-cons a b s less w, ← e, z, le-ltb n 1 y, ← p, q)
+
+-- ---- behind a count
+
+module _ (a b : ℕ) (s : List ℕ) (i : a ≤ b) (w : b ≤ length s) (x : VarUInt) (e : x ≡ varUInt (between a b s)) (v n : ℕ) (u : Bool) (z : x ≡ N.Whole v n u) where
+  pub count-in : a + n ≤ b
+  count-in = omega (arith, var-range (between a b s) v n u (sym e ∙ z) .2, part-length a b s (record { order = i; within = w }))
+
+  pub count-rest : drop n (between a b s) ≡ between (a + n) b s
+  count-rest = drop-take n (b - a) (drop a s) ∙ rw (drop-drop n a s) (let q : b - a - n ≡ b - (a + n) = omega arith in rw q)
+
+  pub shared-whole : (m : Modes) (g h : Faults) (r : Heading) → h ≡ noted m g (flawIf (not u) long) → r ≡ sharedItemsOf h v (a + n) b (between (a + n) b s) → r ≡ sharedCountOf m g a b (between a b s) (varUInt (between a b s))
+  shared-whole m g h r y k = rw (← e, z, ← y, count-rest) k
+
+-- ---- behind a size
+
+module _ (c : Inner) (m : Modes) (g : Faults) (s : List ℕ) (x : Span) (e : x ≡ spanAt m g s) where
+  pub inside-stop : (j : Stop) → x ≡ P.Stop j → H.Stop j ≡ insideOf c m s (spanAt m g s)
+  inside-stop j z = rw (← e, z)
+
+  module _ (a b : ℕ) (h : Faults) (z : x ≡ P.Part a b h) where
+    pub inside-bytes : c ≡ I.Bytes → H.Leaf b h ≡ insideOf c m s (spanAt m g s)
+    inside-bytes y = rw (← e, z, y)
+
+    pub inside-fields : c ≡ I.Fields → H.Fields Field a b h ≡ insideOf c m s (spanAt m g s)
+    inside-fields y = rw (← e, z, y)
+
+    module _ (r : Heading) where
+      pub inside-id : c ≡ I.ById → r ≡ idOf m h b (varUInt (between a b s)) → r ≡ insideOf c m s (spanAt m g s)
+      inside-id y w = rw (← e, z, y) w
+
+      pub inside-name : c ≡ I.ByName → r ≡ nameOf b (textAt m h (between a b s)) → r ≡ insideOf c m s (spanAt m g s)
+      inside-name y w = rw (← e, z, y) w
+
+      pub inside-shared-fields : c ≡ I.SharedFields → r ≡ sharedFieldsOf h a b (between a b s) → r ≡ insideOf c m s (spanAt m g s)
+      inside-shared-fields y w = rw (← e, z, y) w
+
+      pub inside-items : c ≡ I.Items → r ≡ countOf m h a b (varUInt (between a b s)) → r ≡ insideOf c m s (spanAt m g s)
+      inside-items y w = rw (← e, z, y) w
+
+      pub inside-shared-items : c ≡ I.SharedItems → r ≡ sharedCountOf m h a b (between a b s) (varUInt (between a b s)) → r ≡ insideOf c m s (spanAt m g s)
+      inside-shared-items y w = rw (← e, z, y) w
+
+-- ---- by the class
+
+module _ (k : Kind) (m : Modes) (g : Faults) (s : List ℕ) (c : Class) (r : Heading) (e : c ≡ classOf k) where
+  by : (d : Class) → c ≡ d → r ≡ headBy d m g s → r ≡ headAt k m g s
+  by d z w = rw (head-is k m g s, ← e, z) w
+
+  pub head-fixed : (n : ℕ) → c ≡ C.Fixed n → r ≡ fixedAt n g s → r ≡ headAt k m g s
+  head-fixed n z w = by (C.Fixed n) z w
+
+  pub head-text : c ≡ C.Text → r ≡ leafOf (textAt m g s) → r ≡ headAt k m g s
+  head-text z w = by C.Text z w
+
+  pub head-positive : c ≡ C.Positive → r ≡ positiveOf m g (varUInt s) → r ≡ headAt k m g s
+  head-positive z w = by C.Positive z w
+
+  pub head-negative : c ≡ C.Negative → r ≡ negativeOf m g (varUInt s) → r ≡ headAt k m g s
+  head-negative z w = by C.Negative z w
+
+  pub head-wide : c ≡ C.Wide → r ≡ doubleAt m g s → r ≡ headAt k m g s
+  head-wide z w = by C.Wide z w
+
+  pub head-behind : (i : Inner) → c ≡ C.Behind i → r ≡ insideOf i m s (spanAt m g s) → r ≡ headAt k m g s
+  head-behind i z w = by (C.Behind i) z w
+
+-- ---- the size that a kind has
+
+module _ (k : Kind) (c : Class) (e : c ≡ classOf k) where
+  pub size-fixed : (n : ℕ) → c ≡ C.Fixed n → n ≡ fixedSize k
+  size-fixed n z = rw (← e, z)
+
+  pub size-text : c ≡ C.Text → 0 ≡ fixedSize k
+  size-text z = rw (← e, z)
+
+  pub size-positive : c ≡ C.Positive → 0 ≡ fixedSize k
+  size-positive z = rw (← e, z)
+
+  pub size-negative : c ≡ C.Negative → 0 ≡ fixedSize k
+  size-negative z = rw (← e, z)
+
+  pub size-wide : c ≡ C.Wide → 0 ≡ fixedSize k
+  size-wide z = rw (← e, z)
+
+  pub size-behind : (i : Inner) → c ≡ C.Behind i → 0 ≡ fixedSize k
+  size-behind i z = rw (← e, z)

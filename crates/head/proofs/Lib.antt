@@ -1,0 +1,7 @@
+pub mod FaultLaws
+pub mod FaultSums
+pub mod HeadLaws
+pub mod FrontCases
+pub mod HeadCases
+pub mod MeetCases
+pub mod OneAnswer

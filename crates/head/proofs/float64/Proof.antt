@@ -1,0 +1,23 @@
+use borrow.Author.Needs.{needs}
+use Rattle.head.proofs.float64.Statement.{statement}
+use Rattle.head.proofs.float64.Tie as tie
+use Rattle.head.proofs.float64.Reads as reads
+use Rattle.head.proofs.float64.Lts as lts
+use Rattle.float.proofs.float32_holds.Reads as float32-holds-reads
+use Rattle.head.proofs.with_wide.Reads as with-wide-reads
+use Rattle.number.proofs.read64.Reads as read64-reads
+use Rattle.head.proofs.HeadCases.{double-cut, double-whole}
+
+ruleset laws = (double-cut, double-whole, needs)
+
+pub float64-spec : {M : Type 1} → statement M
+float64-spec =
+    tie.close
+    (tie.spec
+    (λ c κs. search laws)
+    (λ c. search laws)
+    (λ c. search laws)
+    (λ c κs. search laws)
+    (λ c κs. search laws)
+    (λ c. search laws)
+    (λ c. search laws))

@@ -1,0 +1,23 @@
+use borrow.Author.Needs.{needs}
+use Rattle.head.proofs.negative.Statement.{statement}
+use Rattle.head.proofs.negative.Tie as tie
+use Rattle.head.proofs.negative.Reads as reads
+use Rattle.head.proofs.negative.Lts as lts
+use Rattle.head.proofs.with_long.Reads as with-long-reads
+use Rattle.head.proofs.with_low.Reads as with-low-reads
+use Rattle.number.proofs.read.Reads as read-reads
+use Rattle.head.proofs.HeadCases.{negative-cut, negative-whole}
+
+ruleset laws = (negative-cut, negative-whole, needs)
+
+pub negative-spec : {M : Type 1} → statement M
+negative-spec =
+    tie.close
+    (tie.spec
+    (λ c κs. search laws)
+    (λ c. search laws)
+    (λ c. search laws)
+    (λ c κs. search laws)
+    (λ c κs. search laws)
+    (λ c. search laws)
+    (λ c. search laws))

@@ -1,0 +1,91 @@
+-- What the code answers, of the definitions' readers: positions in the part that was lent for what is left, and one record for the flaws met.
+use Prim.Native.Nat.{ℕ, _-_, _/_, _%_}
+use mathlib.Core.Bool.{Bool, true, false}
+use mathlib.Core.List.{List, [], _∷_}
+use lib.ListN.{length}
+use lib.Bits.{bitOr}
+use lib.Dec.{eqb}
+use Rattle.format.specs.declared.Kind.{Kind}
+use Rattle.format.specs.declared.Form.{Form}
+use Rattle.format.specs.declared.Stop.{Stop}
+use Rattle.head.specs.declared.Modes.{Modes}
+use Rattle.head.specs.declared.Faults.{Faults}
+use Rattle.head.specs.declared.Front.{Front}
+use Rattle.head.specs.declared.Front.the-variants as F
+use Rattle.head.specs.declared.Heading.{Heading}
+use Rattle.head.specs.declared.Heading.the-variants as H
+use Rattle.head.specs.declared.Met.{Met}
+use Rattle.head.specs.declared.Met.the-variants as M
+use Rattle.format.specs.Parse.{Flaw, twin, blank, long, low, wide, notText, notUniform, Out, fault, got, bind, make}
+use Rattle.format.specs.Mask.{flawValue}
+use Rattle.format.specs.Payload.{front, Head, value, fieldsIn, itemsIn, head}
+
+-- ---- flaws
+
+abbrev pub nothing : Faults
+nothing = record { sum = 0 }
+
+-- a flaw with the value v beside those noted before, if it was met
+abbrev pub marked : Faults → Bool → ℕ → Faults
+marked g true v = record { sum = bitOr (g .sum) v }
+marked g false v = g
+
+-- it is asked for
+abbrev pub asks : Modes → Flaw → Bool
+asks m twin = m .names
+asks m blank = m .names
+asks m long = m .format
+asks m low = m .format
+asks m wide = m .format
+asks m notText = m .format
+asks m notUniform = m .format
+
+-- these flaws beside those noted before, of what is asked
+unfoldable pub noted : Modes → Faults → List Flaw → Faults
+noted m g [] = g
+noted m g (f ∷ fs) = noted m (marked g (asks m f) (flawValue f)) fs
+
+abbrev pub isNoted : Flaw → Faults → Bool
+isNoted f g = eqb (g .sum / flawValue f % 2) 1
+
+abbrev pub sumIn : Faults → ℕ
+sumIn g = g .sum
+
+abbrev pub flawIf : Bool → Flaw → List Flaw
+flawIf true f = f ∷ []
+flawIf false f = []
+
+-- ---- an answer by what was read
+
+abbrev pub answerOf : {A B : Type 0} → (Stop → B) → (A → Faults → List ℕ → B) → Modes → Faults → Out A → B
+answerOf stop go m g (fault k) = stop k
+answerOf stop go m g (got a fs r) = go a (noted m g fs) r
+
+-- what stands before a payload
+unfoldable pub frontAt : Form → Modes → Faults → List ℕ → Front
+frontAt f m g s = answerOf F.Stop (λ x h r. F.Read (x .1) (length s - length r - length (x .0)) (length s - length r) h) m g (front f s)
+
+-- a payload up to its contents
+abbrev pub headingOf : Head → Faults → ℕ → Heading
+headingOf (value v) h e = H.Leaf e h
+headingOf (fieldsIn f b) h e = H.Fields f (e - length b) e h
+headingOf (itemsIn f n b) h e = H.Items f n (e - length b) e h
+
+unfoldable pub headAt : Kind → Modes → Faults → List ℕ → Heading
+headAt k m g s = answerOf H.Stop (λ x h r. headingOf x h (length s - length r)) m g (head k s)
+
+-- a field up to its contents: what was met is its name and kind, its payload and what follows, and the payload's head
+abbrev pub meeting : Form → List ℕ → Out ((List ℕ × Kind) × (List ℕ × Head))
+meeting f s = bind (front f s) λ x r. make (λ h. (x, (r, h))) (head (x .1) r)
+
+abbrev pub metOf : Kind → ℕ → ℕ → Head → Faults → ℕ → Met
+metOf k a b (value v) h e = M.Leaf k a b e h
+metOf k a b (fieldsIn f c) h e = M.Fields k a b f (e - length c) e h
+metOf k a b (itemsIn f n c) h e = M.Items k a b f n (e - length c) e h
+
+-- in a part of n bytes
+abbrev pub metIn : ℕ → (List ℕ × Kind) × (List ℕ × Head) → Faults → List ℕ → Met
+metIn n x h q = metOf (x .0 .1) (n - length (x .1 .0) - length (x .0 .0)) (n - length (x .1 .0)) (x .1 .1) h (n - length q)
+
+unfoldable pub meetAt : Form → Modes → Faults → List ℕ → Met
+meetAt f m g s = answerOf M.Stop (metIn (length s)) m g (meeting f s)
