@@ -27,7 +27,9 @@ use Rattle.frames.specs.declared.Refusal.{Refusal}
 use Rattle.frames.specs.declared.Refusal.the-variants.{ListEnds}
 use Rattle.frames.specs.declared.Written.the-variants.{Done, Refused}
 use Rattle.format.specs.Limits.{depthLimit, lengthLimit}
-use Rattle.format.specs.Parse.{Flaw, long, fill}
+use Rattle.format.specs.declared.Flaw.{Flaw}
+use Rattle.format.specs.declared.Flaw.the-variants.{Long}
+use Rattle.format.specs.Parse.{fill}
 use Rattle.format.specs.Tree.{Tree, object}
 use Rattle.format.specs.Encoding.{encoding, sizesOf, WithinLimits}
 use Rattle.format.specs.Reader.{Standing, Named, Layout, read, treeOf}
@@ -155,11 +157,11 @@ mask-of-spelling = spelled.mask-of-spelling
 pub mask-of-shown : (payload : List ℕ) (shown : ShownPayload payload) (modes : ℕ) → mask modes payload ≡ sumOf modes (shown .flaws) flaws + paddingOf modes (shown .left)
 mask-of-shown = spelled.mask-of-shown
 
-pub met-exactly : (payload : List ℕ) (shown : ShownPayload payload) (f : Flaw) → (f ≡ long → ⊥) → (has f (shown .flaws) ≡ true) ↔ HasFlaw f depthLimit (shown .kind, shown .layout)
+pub met-exactly : (payload : List ℕ) (shown : ShownPayload payload) (f : Flaw) → (f ≡ Long → ⊥) → (has f (shown .flaws) ≡ true) ↔ HasFlaw f depthLimit (shown .kind, shown .layout)
 met-exactly = spelled.met-exactly
 
 pub long-exactly : (payload : List ℕ) → Bytes payload → (shown : ShownPayload payload)
-    → (has long (shown .flaws) ≡ false) ↔ ((w : List ℕ) × (payload ≡ w ++ shown .left) × Spells minimalForm depthLimit Fo.Top ([], (shown .kind, shown .layout)) w)
+    → (has Long (shown .flaws) ≡ false) ↔ ((w : List ℕ) × (payload ≡ w ++ shown .left) × Spells minimalForm depthLimit Fo.Top ([], (shown .kind, shown .layout)) w)
 long-exactly = spelled.long-exactly
 
 -- 2. a stopping fault is the whole mask, whatever is asked; bits that are no mode's are ignored

@@ -16,7 +16,8 @@ use Rattle.number.specs.declared.VarUInt.the-variants.{Cut, Whole}
 use Rattle.number.proofs.VarUIntLaws.{var-rt, var-inv}
 use Rattle.format.specs.declared.Stop.{Stop}
 use Rattle.format.specs.declared.Stop.the-variants.{Early}
-use Rattle.format.specs.Parse.{Flaw, Out, fault, got, withFlaws, bind, raise, make, whole, number, readVarUInt, fixed, sized, many, fill}
+use Rattle.format.specs.declared.Flaw.{Flaw}
+use Rattle.format.specs.Parse.{Out, fault, got, withFlaws, bind, raise, make, whole, number, readVarUInt, fixed, sized, many, fill}
 use Rattle.format.specs.Encoding.{withSize, concat}
 use Rattle.format.proofs.Lists.{bytes-right, bytes-left}
 

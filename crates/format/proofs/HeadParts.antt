@@ -21,7 +21,9 @@ use Rattle.format.specs.declared.Form.{Form}
 use Rattle.format.specs.declared.Form.the-variants.{Top, Field, Item, SharedField, SharedItem}
 use Rattle.format.specs.declared.Stop.the-variants.{BadUniform}
 use Rattle.format.specs.Kinds.{kindAt, isBare}
-use Rattle.format.specs.Parse.{Flaw, low, wide, notText, blank, Out, fault, got, bind, raise, make, readVarUInt, fixed, sized, rest}
+use Rattle.format.specs.declared.Flaw.{Flaw}
+use Rattle.format.specs.declared.Flaw.the-variants.{Low, Wide, NotUtf8, Blank}
+use Rattle.format.specs.Parse.{Out, fault, got, bind, raise, make, readVarUInt, fixed, sized, rest}
 use Rattle.format.specs.Names.{isEmpty, readText, readName}
 use Rattle.format.specs.Tree.{Leaf, null, bool, integer, float, binary, string, objectAttachment, binaryAttachment, hash, uuid, objectId, dateTime, timeSpan}
 use Rattle.format.specs.Payload.{kindFound, readType, front, float32, float64, readNegative, readFloat64, readCustomById, readCustomByName, Payload, leaf, fields, sharedFields, items, sharedItems, payload, headBy, Head, value, fieldsIn, itemsIn, sharedFieldsOf, readSharedFields, sharedItemsOf, readSharedItems, readFields, readItems, head}
@@ -31,16 +33,16 @@ use Rattle.format.proofs.Local.{bind-got, raise-got, Local, local-bind,
 -- ---- local
 
 pub local-text : Local readText
-local-text = local-bind (sized rest) (λ t r. raise (not (isText t)) notText (got t [] r)) (local-sized rest) (λ t. local-raise (not (isText t)) notText t)
+local-text = local-bind (sized rest) (λ t r. raise (not (isText t)) NotUtf8 (got t [] r)) (local-sized rest) (λ t. local-raise (not (isText t)) NotUtf8 t)
 
 local-name : Local readName
-local-name = local-bind readText (λ n r. raise (isEmpty n) blank (got n [] r)) local-text (λ n. local-raise (isEmpty n) blank n)
+local-name = local-bind readText (λ n r. raise (isEmpty n) Blank (got n [] r)) local-text (λ n. local-raise (isEmpty n) Blank n)
 
 local-negative : Local readNegative
-local-negative = local-bind readVarUInt (λ m r. raise (not (ltb m (2 ^ 63))) low (got (integer (negsuc m)) [] r)) local-number (λ m. local-raise (not (ltb m (2 ^ 63))) low (integer (negsuc m)))
+local-negative = local-bind readVarUInt (λ m r. raise (not (ltb m (2 ^ 63))) Low (got (integer (negsuc m)) [] r)) local-number (λ m. local-raise (not (ltb m (2 ^ 63))) Low (integer (negsuc m)))
 
 local-float64 : Local readFloat64
-local-float64 = local-bind (fixed 8) (λ b r. raise (holds (fromBytes b)) wide (got (float (float64 (fromBytes b))) [] r)) (local-fixed 8) (λ b. local-raise (holds (fromBytes b)) wide (float (float64 (fromBytes b))))
+local-float64 = local-bind (fixed 8) (λ b r. raise (holds (fromBytes b)) Wide (got (float (float64 (fromBytes b))) [] r)) (local-fixed 8) (λ b. local-raise (holds (fromBytes b)) Wide (float (float64 (fromBytes b))))
 
 local-bytes : (n : ℕ) (made : List ℕ → Leaf) → Local (λ s. make value (make made (fixed n s)))
 local-bytes n made = local-make value (λ s. make made (fixed n s)) (local-make made (fixed n) (local-fixed n))
@@ -80,8 +82,8 @@ Fronted s x q = (w : List ℕ) × (s ≡ w ++ (x .0 ++ q))
 
 name-ends : (s : List ℕ) {n : List ℕ} {fs : List Flaw} {q : List ℕ} → readName s ≡ got n fs q → ((w : List ℕ) × (s ≡ w ++ (n ++ q))) × (length q < length s)
 name-ends s {n} {fs} {q} h =
-    bind-got (readText s) _ h λ b es r gs e i _. raise-got (isEmpty b) blank (got b [] r) i λ _ j.
-    bind-got (sized rest s) _ e λ c es′ r′ gs′ e′ i′ _. raise-got (not (isText c)) notText (got c [] r′) i′ λ _ j′.
+    bind-got (readText s) _ h λ b es r gs e i _. raise-got (isEmpty b) Blank (got b [] r) i λ _ j.
+    bind-got (sized rest s) _ e λ c es′ r′ gs′ e′ i′ _. raise-got (not (isText c)) NotUtf8 (got c [] r′) i′ λ _ j′.
     sized-got rest s e′ λ pre v _ m es l.
     let z : n ≡ v = cc in
     let y : q ≡ r′ = cc in

@@ -17,7 +17,8 @@ use Rattle.format.specs.declared.Form.{Form}
 use Rattle.format.specs.declared.Form.the-variants.{Top, Field, Item, SharedField, SharedItem}
 use Rattle.format.specs.declared.Stop.the-variants.{BadUniform}
 use Rattle.format.specs.Kinds.{typeByte, kindAt, same, all, isBare, isUniform, isUniformArray}
-use Rattle.format.specs.Parse.{Out, fault, got, notUniform, twin, bind, raise, make, readVarUInt, many, fill}
+use Rattle.format.specs.declared.Flaw.the-variants.{NotUniform, Twin}
+use Rattle.format.specs.Parse.{Out, fault, got, bind, raise, make, readVarUInt, many, fill}
 use Rattle.format.specs.Names.{twins}
 use Rattle.format.specs.Tree.{Leaf, Node, atom, array, object, mapNode, NameWithin, NodeWithin}
 use Rattle.format.specs.Encoding.{withSize, concat, leafKind, leafPayload, fieldKinds, nodeKind, items, fields, arrayBody, objectBody, nodePayload}
@@ -176,7 +177,7 @@ module _ {A X : Type 0} (p : Reader X) (kind : A → Kind) (lay : A → X) (pay 
       let z : itemsIn Item n q ≡ h = cc in
       bind-case (many (p Item) n q) _ (subst (λ h. contents p h ≡ got t [] []) (sym z) c) λ ys u e₁ c₁.
       many-case (p Item) (λ a. read-as kind lay (nameless a)) (λ a. typeByte OfItem (kind a) ∷ pay a) _ item-good n q wq e₁ λ xs ey es ws el.
-      let y = raise-off (isUniformArray (kindsIn ys)) notUniform (got (array (map (λ x. x .1) ys)) [] u) c₁ in
+      let y = raise-off (isUniformArray (kindsIn ys)) NotUniform (got (array (map (λ x. x .1) ys)) [] u) c₁ in
       (xs, cc (items-stand xs), cc (append-nil (concat (λ a. typeByte OfItem (kind a) ∷ pay a) xs)), cc (kinds-of-items xs), all-of _ W (λ a v. v .1) xs ws)
 
   shared-items-case : (k : Kind) (n : ℕ) (b q : List ℕ) (h : Head) (t : Node (Standing X)) → b ≡ encoded (suc n) ++ (typeByte SharedByItems k ∷ q) → Bytes q → (u : Bool) → isBare k ≡ u
@@ -212,9 +213,9 @@ module _ {A X : Type 0} (p : Reader X) (kind : A → Kind) (lay : A → X) (pay 
   fields-inv b h t w e c =
       let z : fieldsIn Field b ≡ h = cc in
       bind-case (fill (p Field) (length b) b) _ (subst (λ h. contents p h ≡ got t [] []) (sym z) c) λ ys r e₁ c₁.
-      let u = raise-off (isUniform (kindsIn ys)) notUniform (raise (twins (namesIn ys)) twin (got (object ys) [] r)) c₁ in
+      let u = raise-off (isUniform (kindsIn ys)) NotUniform (raise (twins (namesIn ys)) Twin (got (object ys) [] r)) c₁ in
       let f = fill-inv (p Field) (read-as kind lay) (fieldBytes Field kind pay) _ (g .good Field) (length b) b ys r w e₁ in
-      let y = raise-off (twins (namesIn ys)) twin (got (object ys) [] r) (u .1) in
+      let y = raise-off (twins (namesIn ys)) Twin (got (object ys) [] r) (u .1) in
       (f .0, cc, f .2, cc (kinds-of-fields (f .0)), (f .4, cc (names-of-fields (f .0))))
 
   shared-fields-inv : (b : List ℕ) (h : Head) (t : Node (Standing X)) → Bytes b → readSharedFields b ≡ got h [] [] → contents p h ≡ got t [] [] → FieldsBack true b t
@@ -223,10 +224,10 @@ module _ {A X : Type 0} (p : Reader X) (kind : A → Kind) (lay : A → X) (pay 
   shared-fields-inv (x₀ ∷ s) h t w e c = at (kindAt SharedByFields x₀) refl s (w .1) e
     where
       go : (k : Kind) (s : List ℕ) → x₀ ≡ typeByte SharedByFields k → 1 ≤ length s → (ys : List (Named (Standing X))) (r : List ℕ) (xs : List (Named A)) → ys ≡ map (read-as kind lay) xs
-          → s ≡ concat (fieldBytes (SharedField k) kind pay) xs → r ≡ [] → All (FieldWithin (SharedField k) kind W) xs → raise (twins (namesIn ys)) twin (got (object ys) [] r) ≡ got t [] [] → FieldsBack true (x₀ ∷ s) t
+          → s ≡ concat (fieldBytes (SharedField k) kind pay) xs → r ≡ [] → All (FieldWithin (SharedField k) kind W) xs → raise (twins (namesIn ys)) Twin (got (object ys) [] r) ≡ got t [] [] → FieldsBack true (x₀ ∷ s) t
       go k s ek o ys r [] ey es er ws h = absurd (let z : length s ≡ 0 = ap length es in omega arith)
       go k s ek o ys r (x ∷ xs) ey es er ws h =
-          let z = raise-off (twins (namesIn ys)) twin (got (object ys) [] r) h in
+          let z = raise-off (twins (namesIn ys)) Twin (got (object ys) [] r) h in
           let a : kind (x .1) ≡ k = ws .0 .0 .0 in
           let d : all (same (kind (x .1))) (map (λ y. kind (y .1)) xs) ≡ true = rw a (same-all (λ y. kind (y .1)) k xs (all-of _ (λ y. kind (y .1) ≡ k) (λ y w. w .0 .0) xs (ws .1))) in
           (x ∷ xs, cc, rw a (cc), d, (all-of _ (λ y. NameWithin (y .0) × W (y .1)) (λ y w. (w .0 .1, w .1)) (x ∷ xs) ws, cc (names-of-fields (x ∷ xs))))

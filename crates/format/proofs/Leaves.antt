@@ -20,7 +20,8 @@ use Rattle.float.proofs.Laws.{holds-nan, narrow-lt, narrow-nan, widen-narrow, w
 use Rattle.format.specs.declared.Kind.{Kind}
 use Rattle.format.specs.declared.Kind.the-variants.{Null, Object, UniformObject, Array, UniformArray, Binary, String, IntegerPositive, IntegerNegative, Float32, Float64, False, True, ObjectAttachment, BinaryAttachment, Hash, Uuid, DateTime, TimeSpan, ObjectId, CustomById, CustomByName}
 use Rattle.format.specs.Kinds.{isBare}
-use Rattle.format.specs.Parse.{Out, got, low, wide, make, readVarUInt, fixed, sized, rest}
+use Rattle.format.specs.declared.Flaw.the-variants.{Low, Wide}
+use Rattle.format.specs.Parse.{Out, got, make, readVarUInt, fixed, sized, rest}
 use Rattle.format.specs.Names.{readText}
 use Rattle.format.specs.Tree.{Float, number, nan32, nan64, Leaf, null, bool, integer, float, binary, string, objectAttachment, binaryAttachment, hash, uuid, objectId, dateTime, timeSpan, customById, customByName, TicksWithin, FloatWithin, LeafWithin}
 use Rattle.format.specs.Encoding.{withSize, floatKind, floatPayload, leafKind, leafPayload}
@@ -145,7 +146,7 @@ float64-of b w l h = go (isNan64 (fromBytes b)) refl
 
 float64-only : OnlyLeaves Float64 readFloat64
 float64-only s v r w h = bind-case (fixed 8 s) _ h λ b q e h₁. fixed-case 8 s w e λ es l wb.
-    let j = raise-off (holds (fromBytes b)) wide (got (float (float64 (fromBytes b))) [] q) h₁ in
+    let j = raise-off (holds (fromBytes b)) Wide (got (float (float64 (fromBytes b))) [] q) h₁ in
     let z : v ≡ float (float64 (fromBytes b)) = cc in
     let y : q ≡ r = cc in
     let i = float64-of b wb l (j .0) in
@@ -153,7 +154,7 @@ float64-only s v r w h = bind-case (fixed 8 s) _ h λ b q e h₁. fixed-case 8 s
 
 negative-only : OnlyLeaves IntegerNegative readNegative
 negative-only s v r w h = bind-case (readVarUInt s) _ h λ m q e h₁. number-case s w e λ es l wq.
-    let j = raise-off (not (ltb m (2 ^ 63))) low (got (integer (negsuc m)) [] q) h₁ in
+    let j = raise-off (not (ltb m (2 ^ 63))) Low (got (integer (negsuc m)) [] q) h₁ in
     let z : v ≡ integer (negsuc m) = cc in
     let y : q ≡ r = cc in
     rw (z, ← y) (es, refl, ltb-true m (2 ^ 63) (not-false (ltb m (2 ^ 63)) (j .0)))

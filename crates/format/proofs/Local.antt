@@ -13,7 +13,9 @@ use Rattle.number.specs.declared.VarUInt.{VarUInt}
 use Rattle.number.specs.declared.VarUInt.the-variants.{Cut, Whole}
 use Rattle.number.proofs.VarUIntLaws.{var-range, var-local}
 use Rattle.format.specs.declared.Stop.the-variants.{Early}
-use Rattle.format.specs.Parse.{Flaw, long, Out, fault, got, withFlaws, bind, raise, make, whole, number, readVarUInt, fixed, sized}
+use Rattle.format.specs.declared.Flaw.{Flaw}
+use Rattle.format.specs.declared.Flaw.the-variants.{Long}
+use Rattle.format.specs.Parse.{Out, fault, got, withFlaws, bind, raise, make, whole, number, readVarUInt, fixed, sized}
 use Rattle.format.proofs.Back.{never}
 
 -- ---- what was read
@@ -75,11 +77,11 @@ local-number s a fs r h = go (varUInt s) refl h
         let y : drop n s ≡ r = at (not x) h in
         (take n s, rw (← y) (sym (take-append-drop n s)), λ q. rw (var-local s v n x e q, drop-at (take n s) q n m) (again (not x) h q))
       where
-        at : (b : Bool) → raise b long (got v [] (drop n s)) ≡ got a fs r → drop n s ≡ r
+        at : (b : Bool) → raise b Long (got v [] (drop n s)) ≡ got a fs r → drop n s ≡ r
         at true h = cc
         at false h = cc
 
-        again : (b : Bool) → raise b long (got v [] (drop n s)) ≡ got a fs r → (q : List ℕ) → raise b long (got v [] q) ≡ got a fs q
+        again : (b : Bool) → raise b Long (got v [] (drop n s)) ≡ got a fs r → (q : List ℕ) → raise b Long (got v [] q) ≡ got a fs q
         again true h q = cc
         again false h q = cc
 
@@ -115,7 +117,7 @@ number-takes s {v = a} {fs} {r} h = go (varUInt s) refl h
   where
     go : (o : VarUInt) → varUInt s ≡ o → number o s ≡ got a fs r → length r < length s
     go Cut e h = never h
-    go (Whole v n x) e h = raise-got (not x) long (got v [] (drop n s)) h λ gs k.
+    go (Whole v n x) e h = raise-got (not x) Long (got v [] (drop n s)) h λ gs k.
         let i = var-range s v n x e in
         let y : drop n s ≡ r = cc in
         let z : s ≡ take n s ++ r = cc (take-append-drop n s) in

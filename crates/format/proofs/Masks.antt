@@ -12,7 +12,9 @@ use Rattle.format.specs.declared.Stop.{Stop}
 use Rattle.format.specs.declared.Stop.the-variants.{Early, Unknown, TooDeep, TooLong, BadUniform}
 use Rattle.format.specs.declared.Form.the-variants.{Top}
 use Rattle.format.specs.Limits.{depthLimit, lengthLimit}
-use Rattle.format.specs.Parse.{Flaw, twin, blank, long, low, wide, notText, notUniform, Out, fault, got}
+use Rattle.format.specs.declared.Flaw.{Flaw}
+use Rattle.format.specs.declared.Flaw.the-variants.{Twin, Blank, Long, Low, Wide, NotUtf8, NotUniform}
+use Rattle.format.specs.Parse.{Out, fault, got}
 use Rattle.format.specs.Mask.{stopValue, flawValue, modeOf, flaws, has, isAsked, counts, sumOf, paddingMode, paddingOf, maskOf, mask, Fewer, boundsOnly, strict}
 use Rattle.format.specs.Reader.{read}
 
@@ -32,13 +34,13 @@ mask-clean modes = rw (sum-none modes flaws)
 -- ---- strict, and nothing counted
 
 sum-strict : (f : Flaw) (met : List Flaw) → sumOf strict (f ∷ met) flaws ≡ 0 → ⊥
-sum-strict twin met h = omega arith
-sum-strict blank met h = omega arith
-sum-strict long met h = omega arith
-sum-strict low met h = omega arith
-sum-strict wide met h = omega arith
-sum-strict notText met h = omega arith
-sum-strict notUniform met h = omega arith
+sum-strict Twin met h = omega arith
+sum-strict Blank met h = omega arith
+sum-strict Long met h = omega arith
+sum-strict Low met h = omega arith
+sum-strict Wide met h = omega arith
+sum-strict NotUtf8 met h = omega arith
+sum-strict NotUniform met h = omega arith
 
 pub stop-some : (k : Stop) → stopValue k ≡ 0 → ⊥
 stop-some Early h = omega arith
@@ -70,13 +72,13 @@ mask-short modes s l = rw (le-ltb lengthLimit (length s) l)
 -- ---- fewer modes
 
 fewer-at : (few more : ℕ) → Fewer few more → (f : Flaw) → isAsked few (modeOf f) ≡ true → isAsked more (modeOf f) ≡ true
-fewer-at few more w twin = w .withNames
-fewer-at few more w blank = w .withNames
-fewer-at few more w long = w .withFormat
-fewer-at few more w low = w .withFormat
-fewer-at few more w wide = w .withFormat
-fewer-at few more w notText = w .withFormat
-fewer-at few more w notUniform = w .withFormat
+fewer-at few more w Twin = w .withNames
+fewer-at few more w Blank = w .withNames
+fewer-at few more w Long = w .withFormat
+fewer-at few more w Low = w .withFormat
+fewer-at few more w Wide = w .withFormat
+fewer-at few more w NotUtf8 = w .withFormat
+fewer-at few more w NotUniform = w .withFormat
 
 and-mono : (a b c : Bool) → (a ≡ true → b ≡ true) → (a && c) ≡ true → (b && c) ≡ true
 and-mono true b c f h = rw (f refl) h
@@ -118,13 +120,13 @@ bit-kept : (modes : ℕ) (f : Flaw) → isAsked modes (modeOf f) ≡ isAsked (mo
 bit-kept modes f = ap (λ (n : ℕ). eqb n 1) (go f)
   where
     go : (f : Flaw) → modes / modeOf f % 2 ≡ modes % 8 / modeOf f % 2
-    go twin = omega arith
-    go blank = omega arith
-    go long = omega arith
-    go low = omega arith
-    go wide = omega arith
-    go notText = omega arith
-    go notUniform = omega arith
+    go Twin = omega arith
+    go Blank = omega arith
+    go Long = omega arith
+    go Low = omega arith
+    go Wide = omega arith
+    go NotUtf8 = omega arith
+    go NotUniform = omega arith
 
 sum-kept : (modes : ℕ) (met fs : List Flaw) → sumOf modes met fs ≡ sumOf (modes % 8) met fs
 sum-kept modes met [] = refl

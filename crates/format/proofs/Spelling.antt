@@ -10,7 +10,8 @@ use Rattle.number.specs.BigEndian.{Bytes}
 use Rattle.format.specs.declared.Form.the-variants.{Top}
 use Rattle.format.specs.declared.Stop.{Stop}
 use Rattle.format.specs.Limits.{depthLimit}
-use Rattle.format.specs.Parse.{Flaw, got}
+use Rattle.format.specs.declared.Flaw.{Flaw}
+use Rattle.format.specs.Parse.{got}
 use Rattle.format.specs.Tree.{Tree}
 use Rattle.format.specs.Encoding.{kindOf, encoding, WithinLimits}
 use Rattle.format.specs.Reader.{Layout, tree, read, treeOf}

@@ -9,7 +9,8 @@ use borrow.Author.Tests.{not-false}
 use Rattle.number.specs.BigEndian.{Bytes}
 use Rattle.number.proofs.VarUIntLaws.{encoded-length}
 use Rattle.text.specs.Utf8.{isText}
-use Rattle.format.specs.Parse.{got, blank, notText, sized, rest}
+use Rattle.format.specs.declared.Flaw.the-variants.{Blank, NotUtf8}
+use Rattle.format.specs.Parse.{got, sized, rest}
 use Rattle.format.specs.Names.{isEmpty, readText, readName}
 use Rattle.format.specs.Tree.{Text, NameWithin}
 use Rattle.format.specs.Encoding.{withSize}
@@ -32,7 +33,7 @@ text-rt t r e l = rw (sized-rt rest t t r l refl, e)
 pub text-case : {X : Type 0} (s : List ℕ) {t r : List ℕ} → Bytes s → readText s ≡ got t [] r → (s ≡ withSize t ++ r → Text t → Bytes r → length t < 2 ^ 64 → X) → X
 text-case s {t} {r} w h c =
     bind-case (sized rest s) _ h λ a q e h₁. sized-case rest w e λ b e′ es wb l.
-    let j = raise-off (not (isText a)) notText (got a [] q) h₁ in
+    let j = raise-off (not (isText a)) NotUtf8 (got a [] q) h₁ in
     let y : b ≡ t = cc in
     let x : a ≡ t = cc in
     let z : s ≡ withSize t ++ r = cc in
@@ -46,7 +47,7 @@ name-rt n r w l = rw (text-rt n r (w .0 .1) l, w .1)
 pub name-case : {X : Type 0} (s : List ℕ) {n r : List ℕ} → Bytes s → readName s ≡ got n [] r → (s ≡ withSize n ++ r → NameWithin n → Bytes r → X) → X
 name-case s {n} {r} w h c =
     bind-case (readText s) _ h λ a q e h₁. text-case s w e λ es wt wq l.
-    let j = raise-off (isEmpty a) blank (got a [] q) h₁ in
+    let j = raise-off (isEmpty a) Blank (got a [] q) h₁ in
     let x : a ≡ n = cc in
     let y : q ≡ r = cc in
     c (cc) (subst Text x wt, rw x at (j .0)) (subst Bytes y wq)

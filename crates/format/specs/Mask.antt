@@ -10,7 +10,9 @@ use Rattle.format.specs.declared.Stop.the-variants.{Early, Unknown, TooD
 use Rattle.format.specs.declared.Form.the-variants.{Top}
 use Rattle.format.specs.Limits.{depthLimit, lengthLimit}
 use Rattle.format.specs.Kinds.{any}
-use Rattle.format.specs.Parse.{Flaw, twin, blank, long, low, wide, notText, notUniform, Out, fault, got}
+use Rattle.format.specs.declared.Flaw.{Flaw}
+use Rattle.format.specs.declared.Flaw.the-variants.{Twin, Blank, Long, Low, Wide, NotUtf8, NotUniform}
+use Rattle.format.specs.Parse.{Out, fault, got}
 use Rattle.format.specs.Reader.{read}
 
 abbrev pub stopValue : Stop → ℕ
@@ -21,13 +23,13 @@ stopValue TooLong = 8
 stopValue BadUniform = 2048
 
 abbrev pub flawValue : Flaw → ℕ
-flawValue twin = 16
-flawValue blank = 32
-flawValue long = 64
-flawValue low = 128
-flawValue wide = 256
-flawValue notText = 512
-flawValue notUniform = 1024
+flawValue Twin = 16
+flawValue Blank = 32
+flawValue Long = 64
+flawValue Low = 128
+flawValue Wide = 256
+flawValue NotUtf8 = 512
+flawValue NotUniform = 1024
 
 abbrev pub namesMode : ℕ
 namesMode = 1
@@ -40,16 +42,16 @@ paddingMode = 4
 
 -- the mode bit under which it counts
 abbrev pub modeOf : Flaw → ℕ
-modeOf twin = namesMode
-modeOf blank = namesMode
-modeOf long = formatMode
-modeOf low = formatMode
-modeOf wide = formatMode
-modeOf notText = formatMode
-modeOf notUniform = formatMode
+modeOf Twin = namesMode
+modeOf Blank = namesMode
+modeOf Long = formatMode
+modeOf Low = formatMode
+modeOf Wide = formatMode
+modeOf NotUtf8 = formatMode
+modeOf NotUniform = formatMode
 
 abbrev pub flaws : List Flaw
-flaws = twin ∷ blank ∷ long ∷ low ∷ wide ∷ notText ∷ notUniform ∷ []
+flaws = Twin ∷ Blank ∷ Long ∷ Low ∷ Wide ∷ NotUtf8 ∷ NotUniform ∷ []
 
 abbrev pub has : Flaw → List Flaw → Bool
 has f fs = any (λ g. eqb (flawValue f) (flawValue g)) fs

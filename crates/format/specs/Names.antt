@@ -5,7 +5,8 @@ use mathlib.Core.List.{List, [], _∷_}
 use Rattle.text.specs.Utf8.{isText}
 use Rattle.text.specs.Equal.{equal}
 use Rattle.format.specs.Kinds.{any}
-use Rattle.format.specs.Parse.{Out, got, blank, notText, bind, raise, sized, rest}
+use Rattle.format.specs.declared.Flaw.the-variants.{Blank, NotUtf8}
+use Rattle.format.specs.Parse.{Out, got, bind, raise, sized, rest}
 
 unfoldable pub isEmpty : List ℕ → Bool
 isEmpty [] = true
@@ -18,8 +19,8 @@ twins (n ∷ ns) = any (equal n) ns || twins ns
 
 -- a size and text
 abbrev pub readText : List ℕ → Out (List ℕ)
-readText s = bind (sized rest s) λ t r. raise (not (isText t)) notText (got t [] r)
+readText s = bind (sized rest s) λ t r. raise (not (isText t)) NotUtf8 (got t [] r)
 
 -- a field's name
 abbrev pub readName : List ℕ → Out (List ℕ)
-readName s = bind (readText s) λ n r. raise (isEmpty n) blank (got n [] r)
+readName s = bind (readText s) λ n r. raise (isEmpty n) Blank (got n [] r)

@@ -7,13 +7,10 @@ use lib.Dec.{ltb, leb}
 use Rattle.number.specs.VarUInt.{varUInt}
 use Rattle.number.specs.declared.VarUInt.{VarUInt}
 use Rattle.number.specs.declared.VarUInt.the-variants.{Cut, Whole}
+use Rattle.format.specs.declared.Flaw.{Flaw}
+use Rattle.format.specs.declared.Flaw.the-variants.{Long}
 use Rattle.format.specs.declared.Stop.{Stop}
 use Rattle.format.specs.declared.Stop.the-variants.{Early}
-
--- the faults that do not stop: two equal names, an empty name, a VarUInt that is not minimal, a 09 that is too low, a Float64 that
--- Float32 holds, bytes that are no UTF-8, a container that has to be uniform. (Bytes after the top field are what is left in the end.)
-pub data Flaw : Type 0 where
-  twin blank long low wide notText notUniform : Flaw
 
 pub data Out (A : Type 0) : Type 0 where
   fault : Stop → Out A
@@ -44,7 +41,7 @@ whole (got a fs (b ∷ bs)) r = fault Early
 
 abbrev pub number : VarUInt → List ℕ → Out ℕ
 number Cut s = fault Early
-number (Whole v n m) s = raise (not m) long (got v [] (drop n s))
+number (Whole v n m) s = raise (not m) Long (got v [] (drop n s))
 
 unfoldable pub readVarUInt : List ℕ → Out ℕ
 readVarUInt s = number (varUInt s) s

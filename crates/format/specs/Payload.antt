@@ -20,7 +20,8 @@ use Rattle.format.specs.declared.Form.the-variants.{Top, Field, Item, Sh
 use Rattle.format.specs.declared.Stop.the-variants.{Early, BadUniform}
 use Rattle.format.specs.declared.Stop.the-variants as S
 use Rattle.format.specs.Kinds.{kindAt, isBare}
-use Rattle.format.specs.Parse.{Out, fault, got, low, wide, bind, raise, make, readVarUInt, fixed, sized, rest}
+use Rattle.format.specs.declared.Flaw.the-variants.{Low, Wide}
+use Rattle.format.specs.Parse.{Out, fault, got, bind, raise, make, readVarUInt, fixed, sized, rest}
 use Rattle.format.specs.Names.{readText, readName}
 use Rattle.format.specs.Tree.{Float, number, nan32, nan64, Leaf, null, bool, integer, float, binary, string, objectAttachment, binaryAttachment, hash, uuid, objectId, dateTime, timeSpan, customById, customByName}
 
@@ -61,10 +62,10 @@ abbrev pub float64 : ℕ → Float
 float64 b = cond (isNan64 b) (nan64 b) (number b)
 
 abbrev pub readNegative : List ℕ → Out Leaf
-readNegative s = bind (readVarUInt s) λ m r. raise (not (ltb m (2 ^ 63))) low (got (integer (minusPlusOne m)) [] r)
+readNegative s = bind (readVarUInt s) λ m r. raise (not (ltb m (2 ^ 63))) Low (got (integer (minusPlusOne m)) [] r)
 
 abbrev pub readFloat64 : List ℕ → Out Leaf
-readFloat64 s = bind (fixed 8 s) λ b r. raise (holds (fromBytes b)) wide (got (float (float64 (fromBytes b))) [] r)
+readFloat64 s = bind (fixed 8 s) λ b r. raise (holds (fromBytes b)) Wide (got (float (float64 (fromBytes b))) [] r)
 
 abbrev pub readCustomById : List ℕ → Out Leaf
 readCustomById s = bind (readVarUInt s) λ n r. make (customById n) (rest r)

@@ -12,7 +12,8 @@ use Rattle.format.specs.declared.Form.the-variants.{Top, Field, Item, Sh
 use Rattle.format.specs.declared.Stop.the-variants.{TooDeep}
 use Rattle.format.specs.Limits.{depthLimit, lengthLimit}
 use Rattle.format.specs.Kinds.{isUniform, isUniformArray}
-use Rattle.format.specs.Parse.{Out, fault, got, twin, notUniform, bind, raise, make, whole, many, fill}
+use Rattle.format.specs.declared.Flaw.the-variants.{Twin, NotUniform}
+use Rattle.format.specs.Parse.{Out, fault, got, bind, raise, make, whole, many, fill}
 use Rattle.format.specs.Names.{twins}
 use Rattle.format.specs.Tree.{Node, atom, array, object, Tree, mapNode}
 use Rattle.format.specs.Payload.{Head, value, fieldsIn, itemsIn, front, head}
@@ -52,10 +53,10 @@ isTyped (SharedItem k) = false
 
 -- the fields together
 abbrev pub asArray : {A : Type 0} → Form → List (Named (Standing A)) → List ℕ → Out (Node (Standing A))
-asArray f xs r = raise (isTyped f && isUniformArray (kindsIn xs)) notUniform (got (array (map (λ x. x .1) xs)) [] r)
+asArray f xs r = raise (isTyped f && isUniformArray (kindsIn xs)) NotUniform (got (array (map (λ x. x .1) xs)) [] r)
 
 abbrev pub asObject : {A : Type 0} → Form → List (Named (Standing A)) → List ℕ → Out (Node (Standing A))
-asObject f xs r = raise (isTyped f && isUniform (kindsIn xs)) notUniform (raise (twins (namesIn xs)) twin (got (object xs) [] r))
+asObject f xs r = raise (isTyped f && isUniform (kindsIn xs)) NotUniform (raise (twins (namesIn xs)) Twin (got (object xs) [] r))
 
 -- counted items, or fields that fill the part
 abbrev pub contents : {A : Type 0} → Reader A → Head → Out (Node (Standing A))

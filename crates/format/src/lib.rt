@@ -74,6 +74,24 @@ pub enum Stop {
     BadUniform,
 }
 
+// The faults that do not stop ("The mask"). Bytes after the top field are what is left in the end.
+pub enum Flaw {
+    // Two equal names in one object.
+    Twin,
+    // An empty name.
+    Blank,
+    // A VarUInt that is not minimal.
+    Long,
+    // A 09 whose M is too great.
+    Low,
+    // A Float64 that Float32 holds.
+    Wide,
+    // Text that is not UTF-8.
+    NotUtf8,
+    // A container that has to be uniform.
+    NotUniform,
+}
+
 // The kind with an ID.
 pub fn known_of(b: u8) -> Known
     ensures { λ r. ⌜ r ≡ known b ⌝ }

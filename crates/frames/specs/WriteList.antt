@@ -13,7 +13,9 @@ use Rattle.format.specs.declared.Known.the-variants.{Unknown, Is}
 use Rattle.frames.specs.declared.Refusal.{Refusal}
 use Rattle.frames.specs.declared.Refusal.the-variants.{ListEnds, BadFrame, EmptyName, NameUsed, NotText, TooDeep, NoneOpen, Complete}
 use Rattle.format.specs.Kinds.{known, any}
-use Rattle.format.specs.Parse.{Out, fault, got, Flaw, blank, long, low, notText}
+use Rattle.format.specs.declared.Flaw.{Flaw}
+use Rattle.format.specs.declared.Flaw.the-variants.{Blank, Long, Low, NotUtf8}
+use Rattle.format.specs.Parse.{Out, fault, got}
 use Rattle.format.specs.Names.{readName}
 use Rattle.format.specs.Mask.{has}
 use Rattle.format.specs.Tree.{Leaf, Node, atom, array, object, Tree}
@@ -45,9 +47,9 @@ frameKind f (Is k) s = cond (isWritable (payload k)) (framed k s) (refused BadFr
 abbrev pub nameFound : List ℕ → List (List ℕ) → Out (List ℕ) → Frames (List ℕ)
 nameFound f used (fault k) = refused BadFrame f
 nameFound f used (got n fs r) =
-    cond (has long fs) (refused BadFrame f)
-    (cond (has blank fs) (refused EmptyName f)
-    (cond (has notText fs) (refused NotText f)
+    cond (has Long fs) (refused BadFrame f)
+    (cond (has Blank fs) (refused EmptyName f)
+    (cond (has NotUtf8 fs) (refused NotText f)
     (cond (any (equal n) used) (refused NameUsed f)
     (framed n r))))
 
@@ -60,8 +62,8 @@ frameName f (some used) s = nameFound f used (readName s)
 abbrev pub leafFound : List ℕ → Out Leaf → Frames Leaf
 leafFound f (fault k) = refused BadFrame f
 leafFound f (got v fs r) =
-    cond (has long fs || has low fs) (refused BadFrame f)
-    (cond (has notText fs) (refused NotText f)
+    cond (has Long fs || has Low fs) (refused BadFrame f)
+    (cond (has NotUtf8 fs) (refused NotText f)
     (framed v r))
 
 -- ---- frames up to the close, which is eaten. `p` reads one, knowing the names before it. The number bounds how many there are, and the length is enough

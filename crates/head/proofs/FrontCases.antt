@@ -21,8 +21,8 @@ use Rattle.format.specs.declared.Form.{Form}
 use Rattle.format.specs.declared.Form.the-variants.{Top, Field, Item, SharedField, SharedItem}
 use Rattle.format.specs.declared.Stop.{Stop}
 use Rattle.format.specs.declared.Stop.the-variants.{Early, Unknown}
-use Rattle.head.specs.declared.Modes.{Modes}
-use Rattle.head.specs.declared.Faults.{Faults}
+use Rattle.faults.specs.declared.Modes.{Modes}
+use Rattle.faults.specs.declared.Faults.{Faults}
 use Rattle.head.specs.declared.Typed.{Typed}
 use Rattle.head.specs.declared.Typed.the-variants as T
 use Rattle.head.specs.declared.Span.{Span}
@@ -30,10 +30,11 @@ use Rattle.head.specs.declared.Span.the-variants as P
 use Rattle.head.specs.declared.Front.{Front}
 use Rattle.head.specs.declared.Front.the-variants as F
 use Rattle.format.specs.Kinds.{kindAt}
-use Rattle.format.specs.Parse.{blank, long, notText}
-use Rattle.head.specs.Code.{noted, flawIf, frontAt}
+use Rattle.format.specs.declared.Flaw.the-variants.{Blank, Long, NotUtf8}
+use Rattle.faults.specs.Noted.{noted, flawIf}
+use Rattle.head.specs.Code.{frontAt}
 use Rattle.head.specs.Pieces.{between, typedOf, typedAt, spanOf, spanAt, textOf, textAt, namedAt, plainOf}
-use Rattle.head.proofs.FaultLaws.{unasked}
+use Rattle.faults.proofs.NotedLaws.{unasked}
 use Rattle.head.proofs.HeadLaws.{Inside, part-length, front-is}
 
 -- ---- the type byte
@@ -69,7 +70,7 @@ module _ (m : Modes) (g : Faults) (s : List ℕ) (x : VarUInt) (e : x ≡ varUIn
     unfolding spanAt
     span-over l = rw (← e, z, lt-ltb (length s - n) v l)
 
-    pub span-part : (h : Faults) → v ≤ length s - n → h ≡ noted m g (flawIf (not u) long) → P.Part n (n + v) h ≡ spanAt m g s
+    pub span-part : (h : Faults) → v ≤ length s - n → h ≡ noted m g (flawIf (not u) Long) → P.Part n (n + v) h ≡ spanAt m g s
     unfolding spanAt
     span-part h l y = rw (← e, z, le-ltb (length s - n) v l, y)
 
@@ -88,7 +89,7 @@ module _ (m : Modes) (g : Faults) (s : List ℕ) (x : Span) (e : x ≡ spanAt m 
 
       at : (o : VarUInt) → varUInt s ≡ o → P.Part a b h ≡ spanOf m g (length s) o → Inside a b s
       at N.Cut t y = absurd (let q : _≡_ {A = ℕ} 0 1 = cc in omega arith)
-      at (N.Whole v n u) t y = fits v n (noted m g (flawIf (not u) long)) (ltb (length s - n) v) (var-range s v n u t .2) refl y
+      at (N.Whole v n u) t y = fits v n (noted m g (flawIf (not u) Long)) (ltb (length s - n) v) (var-range s v n u t .2) refl y
 
   pub span-order : a ≤ b
   span-order = span-inside .order
@@ -104,13 +105,13 @@ module _ (m : Modes) (g : Faults) (s : List ℕ) (x : Span) (e : x ≡ spanAt m 
   text-stop k z = rw (← e, z)
 
   module _ (a b : ℕ) (h : Faults) (z : x ≡ P.Part a b h) where
-    pub text-looked : (u : Bool) (f : Faults) → u ≡ isText (between a b s) → f ≡ noted m h (flawIf (not u) notText) → P.Part a b f ≡ textAt m g s
+    pub text-looked : (u : Bool) (f : Faults) → u ≡ isText (between a b s) → f ≡ noted m h (flawIf (not u) NotUtf8) → P.Part a b f ≡ textAt m g s
     unfolding textAt
     text-looked u f y w = rw (← e, z, w, y)
 
     pub text-passed : m .format ≡ false → P.Part a b h ≡ textAt m g s
     unfolding textAt
-    text-passed y = rw (← e, z, unasked m h (not (isText (between a b s))) notText y)
+    text-passed y = rw (← e, z, unasked m h (not (isText (between a b s))) NotUtf8 y)
 
 -- where a text lies
 module _ (m : Modes) (g : Faults) (s : List ℕ) (x : Span) (e : x ≡ textAt m g s) (a b : ℕ) (h : Faults) (z : x ≡ P.Part a b h) where
@@ -138,7 +139,7 @@ module _ (k : Kind) (from : ℕ) (m : Modes) (g : Faults) (s : List ℕ) (x : Sp
   unfolding namedAt
   named-stop j z = rw (← e, z)
 
-  pub named-read : (a b : ℕ) (h f : Faults) → x ≡ P.Part a b h → f ≡ noted m h (flawIf (eqb a b) blank) → F.Read k (from + a) (from + b) f ≡ namedAt k from m g s
+  pub named-read : (a b : ℕ) (h f : Faults) → x ≡ P.Part a b h → f ≡ noted m h (flawIf (eqb a b) Blank) → F.Read k (from + a) (from + b) f ≡ namedAt k from m g s
   unfolding namedAt
   named-read a b h f z w = rw (← e, z, w)
 

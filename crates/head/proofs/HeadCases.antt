@@ -24,8 +24,8 @@ use Rattle.format.specs.declared.Mark.the-variants.{SharedByFields, SharedByIte
 use Rattle.format.specs.declared.Form.the-variants.{Field, Item, SharedField, SharedItem}
 use Rattle.format.specs.declared.Stop.{Stop}
 use Rattle.format.specs.declared.Stop.the-variants.{Early, Unknown, BadUniform}
-use Rattle.head.specs.declared.Modes.{Modes}
-use Rattle.head.specs.declared.Faults.{Faults}
+use Rattle.faults.specs.declared.Modes.{Modes}
+use Rattle.faults.specs.declared.Faults.{Faults}
 use Rattle.head.specs.declared.Span.{Span}
 use Rattle.head.specs.declared.Span.the-variants as P
 use Rattle.head.specs.declared.Heading.{Heading}
@@ -35,8 +35,9 @@ use Rattle.head.specs.declared.Class.the-variants as C
 use Rattle.head.specs.declared.Inner.{Inner}
 use Rattle.head.specs.declared.Inner.the-variants as I
 use Rattle.format.specs.Kinds.{kindAt, isBare}
-use Rattle.format.specs.Parse.{long, low, wide}
-use Rattle.head.specs.Code.{noted, flawIf, headAt}
+use Rattle.format.specs.declared.Flaw.the-variants.{Long, Low, Wide}
+use Rattle.faults.specs.Noted.{noted, flawIf}
+use Rattle.head.specs.Code.{headAt}
 use Rattle.head.specs.Pieces.{between, spanAt, textAt, classOf, fixedSize, fixedAt, positiveOf, negativeOf, doubleAt, leafOf, idOf, nameOf, countOf, sharedFieldsOf, sharedItemsOf, sharedCountOf, insideOf, headBy}
 use Rattle.format.proofs.Lists.{drop-take}
 use Rattle.head.proofs.HeadLaws.{part-length, head-is}
@@ -55,25 +56,25 @@ module _ (m : Modes) (g : Faults) (t : List ℕ) (x : VarUInt) (e : x ≡ varUIn
   pub positive-cut : x ≡ N.Cut → H.Stop Early ≡ positiveOf m g (varUInt t)
   positive-cut z = rw (← e, z)
 
-  pub positive-whole : (v n : ℕ) (u : Bool) (h : Faults) → x ≡ N.Whole v n u → h ≡ noted m g (flawIf (not u) long) → H.Leaf n h ≡ positiveOf m g (varUInt t)
+  pub positive-whole : (v n : ℕ) (u : Bool) (h : Faults) → x ≡ N.Whole v n u → h ≡ noted m g (flawIf (not u) Long) → H.Leaf n h ≡ positiveOf m g (varUInt t)
   positive-whole v n u h z w = rw (← e, z, w)
 
   pub negative-cut : x ≡ N.Cut → H.Stop Early ≡ negativeOf m g (varUInt t)
   negative-cut z = rw (← e, z)
 
-  pub negative-whole : (v n : ℕ) (u : Bool) (h f : Faults) → x ≡ N.Whole v n u → h ≡ noted m g (flawIf (not u) long) → f ≡ noted m h (flawIf (not (ltb v (2 ^ 63))) low) → H.Leaf n f ≡ negativeOf m g (varUInt t)
+  pub negative-whole : (v n : ℕ) (u : Bool) (h f : Faults) → x ≡ N.Whole v n u → h ≡ noted m g (flawIf (not u) Long) → f ≡ noted m h (flawIf (not (ltb v (2 ^ 63))) Low) → H.Leaf n f ≡ negativeOf m g (varUInt t)
   negative-whole v n u h f z w y = rw (← e, z, y, w)
 
   pub id-cut : (b : ℕ) → x ≡ N.Cut → H.Stop Early ≡ idOf m g b (varUInt t)
   id-cut b z = rw (← e, z)
 
-  pub id-whole : (b v n : ℕ) (u : Bool) (h : Faults) → x ≡ N.Whole v n u → h ≡ noted m g (flawIf (not u) long) → H.Leaf b h ≡ idOf m g b (varUInt t)
+  pub id-whole : (b v n : ℕ) (u : Bool) (h : Faults) → x ≡ N.Whole v n u → h ≡ noted m g (flawIf (not u) Long) → H.Leaf b h ≡ idOf m g b (varUInt t)
   id-whole b v n u h z w = rw (← e, z, w)
 
   pub count-cut : (a b : ℕ) → x ≡ N.Cut → H.Stop Early ≡ countOf m g a b (varUInt t)
   count-cut a b z = rw (← e, z)
 
-  pub count-whole : (a b v n : ℕ) (u : Bool) (h : Faults) → x ≡ N.Whole v n u → h ≡ noted m g (flawIf (not u) long) → H.Items Item v (a + n) b h ≡ countOf m g a b (varUInt t)
+  pub count-whole : (a b v n : ℕ) (u : Bool) (h : Faults) → x ≡ N.Whole v n u → h ≡ noted m g (flawIf (not u) Long) → H.Items Item v (a + n) b h ≡ countOf m g a b (varUInt t)
   count-whole a b v n u h z w = rw (← e, z, w)
 
   pub shared-cut : (a b : ℕ) → x ≡ N.Cut → H.Stop Early ≡ sharedCountOf m g a b t (varUInt t)
@@ -83,14 +84,14 @@ module _ (m : Modes) (g : Faults) (s : List ℕ) (x : Fixed64) (e : x ≡ fixed6
   pub double-cut : x ≡ X.Cut → H.Stop Early ≡ doubleAt m g s
   double-cut z = at (ltb (length s) 8) refl (sym z ∙ e)
     where
-      at : (c : Bool) → ltb (length s) 8 ≡ c → X.Cut ≡ cond c X.Cut (X.Whole (fromBytes (take 8 s))) → H.Stop Early ≡ cond (ltb (length s) 8) (H.Stop Early) (H.Leaf 8 (noted m g (flawIf (holds (fromBytes (take 8 s))) wide)))
+      at : (c : Bool) → ltb (length s) 8 ≡ c → X.Cut ≡ cond c X.Cut (X.Whole (fromBytes (take 8 s))) → H.Stop Early ≡ cond (ltb (length s) 8) (H.Stop Early) (H.Leaf 8 (noted m g (flawIf (holds (fromBytes (take 8 s))) Wide)))
       at true t y = rw t
       at false t y = absurd (let q : _≡_ {A = ℕ} 0 1 = cc in omega arith)
 
-  pub double-whole : (b : ℕ) (u : Bool) (h : Faults) → x ≡ X.Whole b → u ≡ holds b → h ≡ noted m g (flawIf u wide) → H.Leaf 8 h ≡ doubleAt m g s
+  pub double-whole : (b : ℕ) (u : Bool) (h : Faults) → x ≡ X.Whole b → u ≡ holds b → h ≡ noted m g (flawIf u Wide) → H.Leaf 8 h ≡ doubleAt m g s
   double-whole b u h z w y = at (ltb (length s) 8) refl (sym z ∙ e)
     where
-      at : (c : Bool) → ltb (length s) 8 ≡ c → X.Whole b ≡ cond c X.Cut (X.Whole (fromBytes (take 8 s))) → H.Leaf 8 h ≡ cond (ltb (length s) 8) (H.Stop Early) (H.Leaf 8 (noted m g (flawIf (holds (fromBytes (take 8 s))) wide)))
+      at : (c : Bool) → ltb (length s) 8 ≡ c → X.Whole b ≡ cond c X.Cut (X.Whole (fromBytes (take 8 s))) → H.Leaf 8 h ≡ cond (ltb (length s) 8) (H.Stop Early) (H.Leaf 8 (noted m g (flawIf (holds (fromBytes (take 8 s))) Wide)))
       at true t y = absurd (let q : _≡_ {A = ℕ} 0 1 = cc in omega arith)
       at false t q = let p : b ≡ fromBytes (take 8 s) = cc in rw (t, y, w, p)
 
@@ -160,7 +161,7 @@ module _ (a b : ℕ) (s : List ℕ) (i : a ≤ b) (w : b ≤ length s) (x : VarU
   pub count-rest : drop n (between a b s) ≡ between (a + n) b s
   count-rest = drop-take n (b - a) (drop a s) ∙ rw (drop-drop n a s) (let q : b - a - n ≡ b - (a + n) = omega arith in rw q)
 
-  pub shared-whole : (m : Modes) (g h : Faults) (r : Heading) → h ≡ noted m g (flawIf (not u) long) → r ≡ sharedItemsOf h v (a + n) b (between (a + n) b s) → r ≡ sharedCountOf m g a b (between a b s) (varUInt (between a b s))
+  pub shared-whole : (m : Modes) (g h : Faults) (r : Heading) → h ≡ noted m g (flawIf (not u) Long) → r ≡ sharedItemsOf h v (a + n) b (between (a + n) b s) → r ≡ sharedCountOf m g a b (between a b s) (varUInt (between a b s))
   shared-whole m g h r y k = rw (← e, z, ← y, count-rest) k
 
 -- ---- behind a size

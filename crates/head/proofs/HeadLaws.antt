@@ -27,8 +27,8 @@ use Rattle.format.specs.declared.Form.{Form}
 use Rattle.format.specs.declared.Form.the-variants.{Top, Field, Item, SharedField, SharedItem}
 use Rattle.format.specs.declared.Stop.{Stop}
 use Rattle.format.specs.declared.Stop.the-variants.{Early, Unknown, BadUniform}
-use Rattle.head.specs.declared.Modes.{Modes}
-use Rattle.head.specs.declared.Faults.{Faults}
+use Rattle.faults.specs.declared.Modes.{Modes}
+use Rattle.faults.specs.declared.Faults.{Faults}
 use Rattle.head.specs.declared.Typed.{Typed}
 use Rattle.head.specs.declared.Typed.the-variants as T
 use Rattle.head.specs.declared.Span.{Span}
@@ -40,14 +40,17 @@ use Rattle.head.specs.declared.Heading.the-variants as H
 use Rattle.head.specs.declared.Inner.{Inner}
 use Rattle.head.specs.declared.Inner.the-variants as I
 use Rattle.format.specs.Kinds.{kindAt, isBare}
-use Rattle.format.specs.Parse.{Out, fault, got, blank, long, low, wide, notText, bind, raise, make, whole, number, readVarUInt, fixed, sized, rest}
+use Rattle.format.specs.declared.Flaw.the-variants.{Blank, Long, Low, Wide, NotUtf8}
+use Rattle.format.specs.Parse.{Out, fault, got, bind, raise, make, whole, number, readVarUInt, fixed, sized, rest}
 use Rattle.format.specs.Names.{isEmpty, readText, readName}
 use Rattle.format.specs.Tree.{Leaf, null, bool, integer, float, binary, string, objectAttachment, binaryAttachment, hash, uuid, objectId, dateTime, timeSpan}
 use Rattle.format.specs.Payload.{float32, float64, readNegative, readFloat64, kindFound, readType, front, Head, value, itemsIn, payload, readFields, readItems, sharedFieldsOf, readSharedFields, sharedItemsOf, readSharedItems, readCustomById, readCustomByName, head}
-use Rattle.head.specs.Code.{noted, flawIf, answerOf, frontAt, headingOf, headAt}
+use Rattle.faults.specs.Noted.{noted, flawIf}
+use Rattle.head.specs.Code.{answerOf, frontAt, headingOf, headAt}
 use Rattle.head.specs.Pieces.{between, typedOf, typedAt, spanOf, spanAt, textOf, textAt, namedOf, namedAt, plainOf, memberOf, frontBy, classOf, fixedAt, positiveOf, negativeOf, doubleAt, leafOf, idOf, nameOf, countOf, insideOf, headBy}
 use Rattle.head.specs.Pieces as pieces
-use Rattle.head.proofs.FaultLaws.{noted-none, answer-raise, answer-bind}
+use Rattle.faults.proofs.NotedLaws.{noted-none}
+use Rattle.head.proofs.AnswerLaws.{answer-raise, answer-bind}
 
 -- ---- what is left
 
@@ -75,13 +78,13 @@ numberThen b k N.Cut = b
 numberThen b k (N.Whole v n x) = k v n x
 
 answer-number : {B : Type 0} (stop : Stop → B) (go : ℕ → Faults → List ℕ → B) (m : Modes) (g : Faults) (s : List ℕ)
-    → answerOf stop go m g (readVarUInt s) ≡ numberThen (stop Early) (λ v n x. go v (noted m g (flawIf (not x) long)) (drop n s)) (varUInt s)
+    → answerOf stop go m g (readVarUInt s) ≡ numberThen (stop Early) (λ v n x. go v (noted m g (flawIf (not x) Long)) (drop n s)) (varUInt s)
 unfolding readVarUInt
 answer-number stop go m g s = at (varUInt s)
   where
-    at : (o : VarUInt) → answerOf stop go m g (number o s) ≡ numberThen (stop Early) (λ v n x. go v (noted m g (flawIf (not x) long)) (drop n s)) o
+    at : (o : VarUInt) → answerOf stop go m g (number o s) ≡ numberThen (stop Early) (λ v n x. go v (noted m g (flawIf (not x) Long)) (drop n s)) o
     at N.Cut = refl
-    at (N.Whole v n x) = rw (answer-raise stop go m g (not x) long (got v [] (drop n s)), noted-none m (noted m g (flawIf (not x) long)))
+    at (N.Whole v n x) = rw (answer-raise stop go m g (not x) Long (got v [] (drop n s)), noted-none m (noted m g (flawIf (not x) Long)))
 
 -- ---- a size, and what it counts
 
@@ -100,9 +103,9 @@ module _ {B : Type 0} (stop : Stop → B) (m : Modes) (g : Faults) (s : List ℕ
   span-same k l f = at (varUInt s) refl
     where
       fits : (v n : ℕ) (x z : Bool) → n ≤ length s → ltb (length s - n) v ≡ z
-          → spanThen stop k (cond z (P.Stop Early) (P.Part n (n + v) (noted m g (flawIf (not x) long)))) ≡ spanThen stop l (cond z (P.Stop Early) (P.Part n (n + v) (noted m g (flawIf (not x) long))))
+          → spanThen stop k (cond z (P.Stop Early) (P.Part n (n + v) (noted m g (flawIf (not x) Long)))) ≡ spanThen stop l (cond z (P.Stop Early) (P.Part n (n + v) (noted m g (flawIf (not x) Long))))
       fits v n x true r e = refl
-      fits v n x false r e = f n (n + v) (noted m g (flawIf (not x) long)) (record { order = omega arith; within = omega (arith, ltb-false (length s - n) v e) })
+      fits v n x false r e = f n (n + v) (noted m g (flawIf (not x) Long)) (record { order = omega arith; within = omega (arith, ltb-false (length s - n) v e) })
 
       at : (o : VarUInt) → varUInt s ≡ o → spanThen stop k (spanOf m g (length s) o) ≡ spanThen stop l (spanOf m g (length s) o)
       at N.Cut e = refl
@@ -119,10 +122,10 @@ module _ {B : Type 0} (stop : Stop → B) (m : Modes) (g : Faults) (s : List ℕ
       fits v n h true e = rw (length-drop n s, e)
       fits v n h false e = let d : n + v - n ≡ v = omega arith in rw (length-drop n s, e, d, drop-drop v n s)
 
-      at : (o : VarUInt) → numberThen (stop Early) (λ v n x. answerOf stop go m (noted m g (flawIf (not x) long)) (cond (ltb (length (drop n s)) v) (fault Early) (whole (p (take v (drop n s))) (drop v (drop n s))))) o
+      at : (o : VarUInt) → numberThen (stop Early) (λ v n x. answerOf stop go m (noted m g (flawIf (not x) Long)) (cond (ltb (length (drop n s)) v) (fault Early) (whole (p (take v (drop n s))) (drop v (drop n s))))) o
           ≡ spanThen stop (λ a e h. answerOf stop go m h (whole (p (between a e s)) (drop e s))) (spanOf m g (length s) o)
       at N.Cut = refl
-      at (N.Whole v n x) = fits v n (noted m g (flawIf (not x) long)) (ltb (length s - n) v) refl
+      at (N.Whole v n x) = fits v n (noted m g (flawIf (not x) Long)) (ltb (length s - n) v) refl
 
   -- the law that the sized kinds share
   sized-is : {A : Type 0} (go : A → Faults → List ℕ → B) (p : List ℕ → Out A) (l : ℕ → ℕ → Faults → B)
@@ -155,25 +158,25 @@ module _ (a e : ℕ) (s : List ℕ) (i : Inside a e s) where
 
 module _ {B : Type 0} (stop : Stop → B) (m : Modes) (g : Faults) (s : List ℕ) where
   -- a span's answer with the text looked at
-  text-then : (k : ℕ → ℕ → Faults → B) (x : Span) → spanThen stop (λ a e h. k a e (noted m h (flawIf (not (isText (between a e s))) notText))) x ≡ spanThen stop k (textOf m s x)
+  text-then : (k : ℕ → ℕ → Faults → B) (x : Span) → spanThen stop (λ a e h. k a e (noted m h (flawIf (not (isText (between a e s))) NotUtf8))) x ≡ spanThen stop k (textOf m s x)
   text-then k (P.Stop j) = refl
   text-then k (P.Part a e h) = refl
 
   text-same : (k l : ℕ → ℕ → Faults → B) → ((a e : ℕ) (h : Faults) → Inside a e s → k a e h ≡ l a e h) → spanThen stop k (textAt m g s) ≡ spanThen stop l (textAt m g s)
   unfolding textAt
-  text-same k l f = sym (text-then k (spanAt m g s)) ∙ (span-same stop m g s _ _ (λ a e h i. f a e (noted m h (flawIf (not (isText (between a e s))) notText)) i) ∙ text-then l (spanAt m g s))
+  text-same k l f = sym (text-then k (spanAt m g s)) ∙ (span-same stop m g s _ _ (λ a e h i. f a e (noted m h (flawIf (not (isText (between a e s))) NotUtf8)) i) ∙ text-then l (spanAt m g s))
 
   text-is : (go : List ℕ → Faults → List ℕ → B) (l : ℕ → ℕ → Faults → B) → ((a e : ℕ) (h : Faults) → Inside a e s → go (between a e s) h (drop e s) ≡ l a e h)
       → answerOf stop go m g (readText s) ≡ spanThen stop l (textAt m g s)
   unfolding textAt
   text-is go l f =
       answer-bind stop go m g (sized rest s) _
-      ∙ (sized-is stop m g s _ rest (λ a e h. l a e (noted m h (flawIf (not (isText (between a e s))) notText))) one ∙ text-then l (spanAt m g s))
+      ∙ (sized-is stop m g s _ rest (λ a e h. l a e (noted m h (flawIf (not (isText (between a e s))) NotUtf8))) one ∙ text-then l (spanAt m g s))
     where
-      one : (a e : ℕ) (h : Faults) → Inside a e s → answerOf stop go m (noted m h []) (raise (not (isText (between a e s))) notText (got (between a e s) [] (drop e s))) ≡ l a e (noted m h (flawIf (not (isText (between a e s))) notText))
+      one : (a e : ℕ) (h : Faults) → Inside a e s → answerOf stop go m (noted m h []) (raise (not (isText (between a e s))) NotUtf8 (got (between a e s) [] (drop e s))) ≡ l a e (noted m h (flawIf (not (isText (between a e s))) NotUtf8))
       one a e h i =
-          rw (noted-none m h, answer-raise stop go m h (not (isText (between a e s))) notText (got (between a e s) [] (drop e s)), noted-none m (noted m h (flawIf (not (isText (between a e s))) notText)))
-          (f a e (noted m h (flawIf (not (isText (between a e s))) notText)) i)
+          rw (noted-none m h, answer-raise stop go m h (not (isText (between a e s))) NotUtf8 (got (between a e s) [] (drop e s)), noted-none m (noted m h (flawIf (not (isText (between a e s))) NotUtf8)))
+          (f a e (noted m h (flawIf (not (isText (between a e s))) NotUtf8)) i)
 
 -- ---- before the payload
 
@@ -181,23 +184,23 @@ module _ {B : Type 0} (stop : Stop → B) (m : Modes) (g : Faults) (s : List ℕ
 abbrev fieldOf : ℕ → List ℕ × Kind → Faults → List ℕ → Front
 fieldOf n x h r = F.Read (x .1) (n - length r - length (x .0)) (n - length r) h
 
-named-then : (k : Kind) (from : ℕ) (m : Modes) (x : Span) → spanThen F.Stop (λ a e h. F.Read k (from + a) (from + e) (noted m h (flawIf (eqb a e) blank))) x ≡ namedOf k from m x
+named-then : (k : Kind) (from : ℕ) (m : Modes) (x : Span) → spanThen F.Stop (λ a e h. F.Read k (from + a) (from + e) (noted m h (flawIf (eqb a e) Blank))) x ≡ namedOf k from m x
 named-then k from m (P.Stop j) = refl
 named-then k from m (P.Part a e h) = refl
 
 named-is : (k : Kind) (n from : ℕ) (m : Modes) (g : Faults) (t : List ℕ) → n ≡ from + length t → answerOf F.Stop (fieldOf n) m g (bind (readName t) λ x q. got (x, k) [] q) ≡ namedOf k from m (textAt m g t)
 named-is k n from m g t e =
     answer-bind F.Stop (fieldOf n) m g (readName t) _
-    ∙ (answer-bind F.Stop _ m g (readText t) _ ∙ (text-is F.Stop m g t _ (λ a b h. F.Read k (from + a) (from + b) (noted m h (flawIf (eqb a b) blank))) one ∙ named-then k from m (textAt m g t)))
+    ∙ (answer-bind F.Stop _ m g (readText t) _ ∙ (text-is F.Stop m g t _ (λ a b h. F.Read k (from + a) (from + b) (noted m h (flawIf (eqb a b) Blank))) one ∙ named-then k from m (textAt m g t)))
   where
     one : (a b : ℕ) (h : Faults) → Inside a b t
-        → answerOf F.Stop (λ x h q. answerOf F.Stop (fieldOf n) m h (got (x, k) [] q)) m h (raise (isEmpty (between a b t)) blank (got (between a b t) [] (drop b t))) ≡ F.Read k (from + a) (from + b) (noted m h (flawIf (eqb a b) blank))
+        → answerOf F.Stop (λ x h q. answerOf F.Stop (fieldOf n) m h (got (x, k) [] q)) m h (raise (isEmpty (between a b t)) Blank (got (between a b t) [] (drop b t))) ≡ F.Read k (from + a) (from + b) (noted m h (flawIf (eqb a b) Blank))
     one a b h i =
-        let f = noted m h (flawIf (eqb a b) blank) in
+        let f = noted m h (flawIf (eqb a b) Blank) in
         let x : n - length (drop b t) ≡ from + b = rw (length-drop b t) (omega (arith, i .within)) in
         let y : from + b - length (between a b t) ≡ from + a = rw (part-length a b t i) (omega (arith, i .order)) in
         rw (
-          answer-raise F.Stop (λ x h q. answerOf F.Stop (fieldOf n) m h (got (x, k) [] q)) m h (isEmpty (between a b t)) blank (got (between a b t) [] (drop b t)),
+          answer-raise F.Stop (λ x h q. answerOf F.Stop (fieldOf n) m h (got (x, k) [] q)) m h (isEmpty (between a b t)) Blank (got (between a b t) [] (drop b t)),
           empty-at a b t i,
           noted-none m f,
           noted-none m f,
@@ -266,9 +269,9 @@ module _ (m : Modes) (g : Faults) (s : List ℕ) where
           ∙ (answer-bind H.Stop _ m h (readVarUInt (between a e s)) _ ∙ (answer-number H.Stop _ m h (between a e s) ∙ at (varUInt (between a e s)) refl))
         where
           at : (o : VarUInt) → varUInt (between a e s) ≡ o
-              → numberThen (H.Stop Early) (λ v n x. headOf (length s) (itemsIn Item v (drop n (between a e s))) (noted m (noted m h (flawIf (not x) long)) []) (drop e s)) o ≡ countOf m h a e o
+              → numberThen (H.Stop Early) (λ v n x. headOf (length s) (itemsIn Item v (drop n (between a e s))) (noted m (noted m h (flawIf (not x) Long)) []) (drop e s)) o ≡ countOf m h a e o
           at N.Cut z = refl
-          at (N.Whole v n x) z = rw (noted-none m (noted m h (flawIf (not x) long)), rest-at a e s i, past-at a e s i n (var-range (between a e s) v n x z .2))
+          at (N.Whole v n x) z = rw (noted-none m (noted m h (flawIf (not x) Long)), rest-at a e s i, past-at a e s i n (var-range (between a e s) v n x z .2))
 
   shared-fields-is : answerOf H.Stop (headOf (length s)) m g (sized readSharedFields s) ≡ insideOf I.SharedFields m s (spanAt m g s)
   shared-fields-is = behind-size I.SharedFields readSharedFields one
@@ -318,11 +321,11 @@ module _ (m : Modes) (g : Faults) (s : List ℕ) where
           byte (b ∷ t) n f at l y = kinds (kindAt SharedByItems b) n f at t (omega arith)
 
           at : (o : VarUInt) → varUInt (between a e s) ≡ o
-              → numberThen (H.Stop Early) (λ v n x. answerOf H.Stop go m (noted m h (flawIf (not x) long)) (readSharedItems v (drop n (between a e s)))) o ≡ pieces.sharedCountOf m h a e (between a e s) o
+              → numberThen (H.Stop Early) (λ v n x. answerOf H.Stop go m (noted m h (flawIf (not x) Long)) (readSharedItems v (drop n (between a e s)))) o ≡ pieces.sharedCountOf m h a e (between a e s) o
           at N.Cut z = refl
           at (N.Whole v n x) z =
               let r = var-range (between a e s) v n x z .2 in
-              byte (drop n (between a e s)) v (noted m h (flawIf (not x) long)) (a + n) (past-at a e s i n r) (rw (length-drop n (between a e s)) (omega (arith, part-length a e s i, i .order)))
+              byte (drop n (between a e s)) v (noted m h (flawIf (not x) Long)) (a + n) (past-at a e s i n r) (rw (length-drop n (between a e s)) (omega (arith, part-length a e s i, i .order)))
 
   -- ---- leaves: only where they end is answered
 
@@ -351,7 +354,7 @@ module _ (m : Modes) (g : Faults) (s : List ℕ) where
   positive-is : (made : ℕ → Leaf) → answerOf H.Stop (headOf (length s)) m g (make value (make made (readVarUInt s))) ≡ positiveOf m g (varUInt s)
   positive-is made = answer-make H.Stop (headOf (length s)) m g value (make made (readVarUInt s)) ∙ (answer-make H.Stop endOf m g made (readVarUInt s) ∙ (answer-number H.Stop _ m g s ∙ at (varUInt s) refl))
     where
-      at : (o : VarUInt) → varUInt s ≡ o → numberThen (H.Stop Early) (λ v n x. H.Leaf (length s - length (drop n s)) (noted m g (flawIf (not x) long))) o ≡ positiveOf m g o
+      at : (o : VarUInt) → varUInt s ≡ o → numberThen (H.Stop Early) (λ v n x. H.Leaf (length s - length (drop n s)) (noted m g (flawIf (not x) Long))) o ≡ positiveOf m g o
       at N.Cut e = refl
       at (N.Whole v n x) e = rw (past n (var-range s v n x e .2))
 
@@ -361,21 +364,21 @@ module _ (m : Modes) (g : Faults) (s : List ℕ) where
       ∙ (answer-bind H.Stop endOf m g (readVarUInt s) _ ∙ (answer-number H.Stop _ m g s ∙ at (varUInt s) refl))
     where
       at : (o : VarUInt) → varUInt s ≡ o
-          → numberThen (H.Stop Early) (λ v n x. answerOf H.Stop endOf m (noted m g (flawIf (not x) long)) (raise (not (ltb v (2 ^ 63))) low (got (integer (negsuc v)) [] (drop n s)))) o ≡ negativeOf m g o
+          → numberThen (H.Stop Early) (λ v n x. answerOf H.Stop endOf m (noted m g (flawIf (not x) Long)) (raise (not (ltb v (2 ^ 63))) Low (got (integer (negsuc v)) [] (drop n s)))) o ≡ negativeOf m g o
       at N.Cut e = refl
       at (N.Whole v n x) e =
-          let f = noted m g (flawIf (not x) long) in
-          rw (answer-raise H.Stop endOf m f (not (ltb v (2 ^ 63))) low (got (integer (negsuc v)) [] (drop n s)), noted-none m (noted m f (flawIf (not (ltb v (2 ^ 63))) low)), past n (var-range s v n x e .2))
+          let f = noted m g (flawIf (not x) Long) in
+          rw (answer-raise H.Stop endOf m f (not (ltb v (2 ^ 63))) Low (got (integer (negsuc v)) [] (drop n s)), noted-none m (noted m f (flawIf (not (ltb v (2 ^ 63))) Low)), past n (var-range s v n x e .2))
 
   double-is : answerOf H.Stop (headOf (length s)) m g (make value (readFloat64 s)) ≡ doubleAt m g s
   double-is =
       answer-make H.Stop (headOf (length s)) m g value (readFloat64 s)
-      ∙ (answer-bind H.Stop endOf m g (fixed 8 s) _ ∙ answer-fixed 8 _ (H.Leaf 8 (noted m g (flawIf (holds (fromBytes (take 8 s))) wide))) one)
+      ∙ (answer-bind H.Stop endOf m g (fixed 8 s) _ ∙ answer-fixed 8 _ (H.Leaf 8 (noted m g (flawIf (holds (fromBytes (take 8 s))) Wide))) one)
     where
       one : 8 ≤ length s
-          → answerOf H.Stop endOf m g (raise (holds (fromBytes (take 8 s))) wide (got (float (float64 (fromBytes (take 8 s)))) [] (drop 8 s))) ≡ H.Leaf 8 (noted m g (flawIf (holds (fromBytes (take 8 s))) wide))
+          → answerOf H.Stop endOf m g (raise (holds (fromBytes (take 8 s))) Wide (got (float (float64 (fromBytes (take 8 s)))) [] (drop 8 s))) ≡ H.Leaf 8 (noted m g (flawIf (holds (fromBytes (take 8 s))) Wide))
       one l =
-          rw (answer-raise H.Stop endOf m g (holds (fromBytes (take 8 s))) wide (got (float (float64 (fromBytes (take 8 s)))) [] (drop 8 s)), noted-none m (noted m g (flawIf (holds (fromBytes (take 8 s))) wide)), past 8 l)
+          rw (answer-raise H.Stop endOf m g (holds (fromBytes (take 8 s))) Wide (got (float (float64 (fromBytes (take 8 s)))) [] (drop 8 s)), noted-none m (noted m g (flawIf (holds (fromBytes (take 8 s))) Wide)), past 8 l)
 
   sized-leaf : (made : List ℕ → Leaf) → answerOf H.Stop (headOf (length s)) m g (make value (make made (sized rest s))) ≡ insideOf I.Bytes m s (spanAt m g s)
   sized-leaf made =
@@ -405,9 +408,9 @@ module _ (m : Modes) (g : Faults) (s : List ℕ) where
           answer-whole H.Stop endOf m h (readCustomById (between a e s)) (drop e s)
           ∙ (answer-bind H.Stop _ m h (readVarUInt (between a e s)) _ ∙ (answer-number H.Stop _ m h (between a e s) ∙ at (varUInt (between a e s))))
         where
-          at : (o : VarUInt) → numberThen (H.Stop Early) (λ v n x. H.Leaf (length s - length (drop e s)) (noted m (noted m h (flawIf (not x) long)) [])) o ≡ idOf m h e o
+          at : (o : VarUInt) → numberThen (H.Stop Early) (λ v n x. H.Leaf (length s - length (drop e s)) (noted m (noted m h (flawIf (not x) Long)) [])) o ≡ idOf m h e o
           at N.Cut = refl
-          at (N.Whole v n x) = rw (noted-none m (noted m h (flawIf (not x) long)), rest-at a e s i)
+          at (N.Whole v n x) = rw (noted-none m (noted m h (flawIf (not x) Long)), rest-at a e s i)
 
   by-name-is : answerOf H.Stop (headOf (length s)) m g (make value (sized readCustomByName s)) ≡ insideOf I.ByName m s (spanAt m g s)
   by-name-is = custom-is I.ByName readCustomByName one

@@ -1,5 +1,4 @@
-pub mod FaultLaws
-pub mod FaultSums
+pub mod AnswerLaws
 pub mod HeadLaws
 pub mod FrontCases
 pub mod HeadCases

@@ -13,22 +13,25 @@ use Rattle.format.specs.declared.Stop.{Stop}
 use Rattle.format.specs.declared.Stop.the-variants.{Early}
 use Rattle.head.specs.declared.Class.{Class}
 use Rattle.head.specs.declared.Class.the-variants as C
-use Rattle.head.specs.declared.Modes.{Modes}
-use Rattle.head.specs.declared.Faults.{Faults}
+use Rattle.faults.specs.declared.Modes.{Modes}
+use Rattle.faults.specs.declared.Faults.{Faults}
 use Rattle.head.specs.declared.Front.{Front}
 use Rattle.head.specs.declared.Front.the-variants as F
 use Rattle.head.specs.declared.Heading.{Heading}
 use Rattle.head.specs.declared.Heading.the-variants as H
 use Rattle.head.specs.declared.Met.{Met}
 use Rattle.head.specs.declared.Met.the-variants as M
-use Rattle.format.specs.Parse.{Flaw, Out, fault, got, bind, make}
+use Rattle.format.specs.declared.Flaw.{Flaw}
+use Rattle.format.specs.Parse.{Out, fault, got, bind, make}
 use Rattle.format.specs.Payload.{front, Head, value, fieldsIn, itemsIn, head}
-use Rattle.head.specs.Code.{noted, answerOf, frontAt, headingOf, headAt, metOf, metIn, meetAt}
+use Rattle.faults.specs.Noted.{noted}
+use Rattle.head.specs.Code.{answerOf, frontAt, headingOf, headAt, metOf, metIn, meetAt}
 use Rattle.head.specs.Pieces.{between, classOf, fixedIn, fixedSize, fixedAt}
 use Rattle.format.proofs.Local.{local-le}
 use Rattle.format.proofs.HeadParts.{local-head, head-body, front-takes}
 use Rattle.head.proofs.HeadLaws.{answer-make, head-is}
-use Rattle.head.proofs.FaultLaws.{noted-none, answer-flaws}
+use Rattle.faults.proofs.NotedLaws.{noted-none}
+use Rattle.head.proofs.AnswerLaws.{answer-flaws}
 
 -- ---- what is left is an end of the part
 

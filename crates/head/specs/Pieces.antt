@@ -21,8 +21,8 @@ use Rattle.format.specs.declared.Form.{Form}
 use Rattle.format.specs.declared.Form.the-variants.{Top, Field, Item, SharedField, SharedItem}
 use Rattle.format.specs.declared.Stop.{Stop}
 use Rattle.format.specs.declared.Stop.the-variants.{Early, Unknown, BadUniform}
-use Rattle.head.specs.declared.Modes.{Modes}
-use Rattle.head.specs.declared.Faults.{Faults}
+use Rattle.faults.specs.declared.Modes.{Modes}
+use Rattle.faults.specs.declared.Faults.{Faults}
 use Rattle.head.specs.declared.Typed.{Typed}
 use Rattle.head.specs.declared.Typed.the-variants as T
 use Rattle.head.specs.declared.Span.{Span}
@@ -36,8 +36,8 @@ use Rattle.head.specs.declared.Class.the-variants as C
 use Rattle.head.specs.declared.Inner.{Inner}
 use Rattle.head.specs.declared.Inner.the-variants as I
 use Rattle.format.specs.Kinds.{kindAt, isBare}
-use Rattle.format.specs.Parse.{blank, long, low, wide, notText}
-use Rattle.head.specs.Code.{noted, flawIf}
+use Rattle.format.specs.declared.Flaw.the-variants.{Blank, Long, Low, Wide, NotUtf8}
+use Rattle.faults.specs.Noted.{noted, flawIf}
 
 -- from a up to e
 abbrev pub between : ℕ → ℕ → List ℕ → List ℕ
@@ -56,7 +56,7 @@ typedAt m (b ∷ s) = typedOf (kindAt m b)
 -- a size, and where the bytes are that it counts
 abbrev pub spanOf : Modes → Faults → ℕ → VarUInt → Span
 spanOf m g e N.Cut = P.Stop Early
-spanOf m g e (N.Whole v n x) = cond (ltb (e - n) v) (P.Stop Early) (P.Part n (n + v) (noted m g (flawIf (not x) long)))
+spanOf m g e (N.Whole v n x) = cond (ltb (e - n) v) (P.Stop Early) (P.Part n (n + v) (noted m g (flawIf (not x) Long)))
 
 unfoldable pub spanAt : Modes → Faults → List ℕ → Span
 spanAt m g s = spanOf m g (length s) (varUInt s)
@@ -64,7 +64,7 @@ spanAt m g s = spanOf m g (length s) (varUInt s)
 -- a size and text
 abbrev pub textOf : Modes → List ℕ → Span → Span
 textOf m s (P.Stop k) = P.Stop k
-textOf m s (P.Part a e g) = P.Part a e (noted m g (flawIf (not (isText (between a e s))) notText))
+textOf m s (P.Part a e g) = P.Part a e (noted m g (flawIf (not (isText (between a e s))) NotUtf8))
 
 unfoldable pub textAt : Modes → Faults → List ℕ → Span
 textAt m g s = textOf m s (spanAt m g s)
@@ -72,7 +72,7 @@ textAt m g s = textOf m s (spanAt m g s)
 -- a name from `from` on, and then the payload
 abbrev pub namedOf : Kind → ℕ → Modes → Span → Front
 namedOf k from m (P.Stop j) = F.Stop j
-namedOf k from m (P.Part a e g) = F.Read k (from + a) (from + e) (noted m g (flawIf (eqb a e) blank))
+namedOf k from m (P.Part a e g) = F.Read k (from + a) (from + e) (noted m g (flawIf (eqb a e) Blank))
 
 unfoldable pub namedAt : Kind → ℕ → Modes → Faults → List ℕ → Front
 namedAt k from m g s = namedOf k from m (textAt m g (between from (length s) s))
@@ -137,14 +137,14 @@ fixedAt n g s = cond (ltb (length s) n) (H.Stop Early) (H.Leaf n g)
 -- a VarUInt: where it ends
 abbrev pub positiveOf : Modes → Faults → VarUInt → Heading
 positiveOf m g N.Cut = H.Stop Early
-positiveOf m g (N.Whole v n x) = H.Leaf n (noted m g (flawIf (not x) long))
+positiveOf m g (N.Whole v n x) = H.Leaf n (noted m g (flawIf (not x) Long))
 
 abbrev pub negativeOf : Modes → Faults → VarUInt → Heading
 negativeOf m g N.Cut = H.Stop Early
-negativeOf m g (N.Whole v n x) = H.Leaf n (noted m (noted m g (flawIf (not x) long)) (flawIf (not (ltb v (2 ^ 63))) low))
+negativeOf m g (N.Whole v n x) = H.Leaf n (noted m (noted m g (flawIf (not x) Long)) (flawIf (not (ltb v (2 ^ 63))) Low))
 
 abbrev pub doubleAt : Modes → Faults → List ℕ → Heading
-doubleAt m g s = cond (ltb (length s) 8) (H.Stop Early) (H.Leaf 8 (noted m g (flawIf (holds (fromBytes (take 8 s))) wide)))
+doubleAt m g s = cond (ltb (length s) 8) (H.Stop Early) (H.Leaf 8 (noted m g (flawIf (holds (fromBytes (take 8 s))) Wide)))
 
 -- a leaf behind its size
 abbrev pub leafOf : Span → Heading
@@ -154,7 +154,7 @@ leafOf (P.Part a e g) = H.Leaf e g
 -- behind a size: a custom's id, or its name
 abbrev pub idOf : Modes → Faults → ℕ → VarUInt → Heading
 idOf m g e N.Cut = H.Stop Early
-idOf m g e (N.Whole v n x) = H.Leaf e (noted m g (flawIf (not x) long))
+idOf m g e (N.Whole v n x) = H.Leaf e (noted m g (flawIf (not x) Long))
 
 abbrev pub nameOf : ℕ → Span → Heading
 nameOf e (P.Stop j) = H.Stop j
@@ -163,7 +163,7 @@ nameOf e (P.Part a b g) = H.Leaf e g
 -- behind a size: an array's count
 abbrev pub countOf : Modes → Faults → ℕ → ℕ → VarUInt → Heading
 countOf m g a e N.Cut = H.Stop Early
-countOf m g a e (N.Whole v n x) = H.Items Item v (a + n) e (noted m g (flawIf (not x) long))
+countOf m g a e (N.Whole v n x) = H.Items Item v (a + n) e (noted m g (flawIf (not x) Long))
 
 -- behind a size: a shared byte, and a field behind it
 abbrev pub sharedFieldOf : Faults → ℕ → ℕ → Known → Heading
@@ -185,7 +185,7 @@ sharedItemsOf g n at e (b ∷ t) = sharedItemOf g n at e (kindAt SharedByItems b
 
 abbrev pub sharedCountOf : Modes → Faults → ℕ → ℕ → List ℕ → VarUInt → Heading
 sharedCountOf m g a e t N.Cut = H.Stop Early
-sharedCountOf m g a e t (N.Whole v n x) = sharedItemsOf (noted m g (flawIf (not x) long)) v (a + n) e (drop n t)
+sharedCountOf m g a e t (N.Whole v n x) = sharedItemsOf (noted m g (flawIf (not x) Long)) v (a + n) e (drop n t)
 
 -- a size read, what stands behind it
 abbrev pub insideOf : Inner → Modes → List ℕ → Span → Heading

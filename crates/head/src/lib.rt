@@ -1,4 +1,7 @@
 // The head of a field: all that stands before its contents.
+use faults::Faults;
+use faults::Modes;
+use format::Flaw;
 use format::Form;
 use format::Kind;
 use format::Known;
@@ -10,20 +13,10 @@ ghost use Prim.Native.Nat.{_≤_};
 ghost use lib.ListN.{length};
 ghost use Rattle.number.specs.VarUInt.{varUInt};
 ghost use Rattle.format.specs.declared.Form.the-variants.{SharedField};
-ghost use Rattle.format.specs.Parse.{twin, blank, long, low, wide, notText, notUniform};
-ghost use Rattle.head.specs.Code.{nothing, marked, noted, flawIf, isNoted, sumIn, frontAt, headAt, meetAt};
+ghost use Rattle.format.specs.declared.Flaw.the-variants.{Twin, Blank, Long, Low, Wide, NotUtf8, NotUniform};
+ghost use Rattle.faults.specs.Noted.{nothing, marked, noted, flawIf, isNoted, sumIn};
+ghost use Rattle.head.specs.Code.{frontAt, headAt, meetAt};
 ghost use Rattle.head.specs.Pieces.{between, typedAt, spanAt, textAt, namedAt, plainOf, classOf, fixedSize, fixedAt, positiveOf, negativeOf, doubleAt, leafOf, idOf, nameOf, countOf, sharedFieldsOf, sharedItemsOf, sharedCountOf, insideOf};
-
-// What is asked for besides the bounds checks.
-pub struct Modes {
-    pub names: bool,
-    pub format: bool,
-}
-
-// The faults that do not stop, of those met so far: the sum of their values, each once. (A number of 64 bits is copied as it was stored.)
-pub struct Faults {
-    pub sum: u64,
-}
 
 // What stands before a payload: the kind, the start of the name, and its end, where the payload starts.
 pub enum Front {
@@ -171,112 +164,6 @@ pub fn fixed_size(kind: Kind) -> usize
     }
 }
 
-// No fault was met so far.
-pub fn no_faults() -> Faults
-    ensures { λ r. ⌜ r ≡ nothing ⌝ }
-{
-    Faults { sum: 0 }
-}
-
-// A fault with this value, if it was met.
-fn note(faults: Faults, met: bool, value: u64) -> Faults
-    ensures { λ r. ⌜ r ≡ marked faults met value ⌝ }
-{
-    if met {
-        return Faults {
-            sum: faults.sum | value,
-        };
-    }
-    faults
-}
-
-// A VarUInt was read.
-fn with_long(modes: Modes, faults: Faults, minimal: bool) -> Faults
-    ensures { λ r. ⌜ r ≡ noted modes faults (flawIf (not minimal) long) ⌝ }
-{
-    note(faults, modes.format & !minimal, 64)
-}
-
-// A 09 was read.
-fn with_low(modes: Modes, faults: Faults, under: bool) -> Faults
-    ensures { λ r. ⌜ r ≡ noted modes faults (flawIf under low) ⌝ }
-{
-    note(faults, modes.format & under, 128)
-}
-
-// A Float64 was read.
-fn with_wide(modes: Modes, faults: Faults, held: bool) -> Faults
-    ensures { λ r. ⌜ r ≡ noted modes faults (flawIf held wide) ⌝ }
-{
-    note(faults, modes.format & held, 256)
-}
-
-// Text was read.
-fn with_text(modes: Modes, faults: Faults, good: bool) -> Faults
-    ensures { λ r. ⌜ r ≡ noted modes faults (flawIf (not good) notText) ⌝ }
-{
-    note(faults, modes.format & !good, 512)
-}
-
-// A name was read.
-fn with_blank(modes: Modes, faults: Faults, empty: bool) -> Faults
-    ensures { λ r. ⌜ r ≡ noted modes faults (flawIf empty blank) ⌝ }
-{
-    note(faults, modes.names & empty, 32)
-}
-
-// A container was read that has to be uniform.
-pub fn with_uniform(modes: Modes, faults: Faults, uniform: bool) -> Faults
-    ensures { λ r. ⌜ r ≡ noted modes faults (flawIf uniform notUniform) ⌝ }
-{
-    note(faults, modes.format & uniform, 1024)
-}
-
-// An object was read.
-pub fn with_twin(modes: Modes, faults: Faults, twins: bool) -> Faults
-    ensures { λ r. ⌜ r ≡ noted modes faults (flawIf twins twin) ⌝ }
-{
-    note(faults, modes.names & twins, 16)
-}
-
-// The faults met, each asked for by itself.
-pub fn is_blank(faults: Faults) -> bool
-    ensures { λ r. ⌜ r ≡ isNoted blank faults ⌝ }
-{
-    faults.sum / 32 % 2 == 1
-}
-
-pub fn is_long(faults: Faults) -> bool
-    ensures { λ r. ⌜ r ≡ isNoted long faults ⌝ }
-{
-    faults.sum / 64 % 2 == 1
-}
-
-pub fn is_low(faults: Faults) -> bool
-    ensures { λ r. ⌜ r ≡ isNoted low faults ⌝ }
-{
-    faults.sum / 128 % 2 == 1
-}
-
-pub fn is_wide(faults: Faults) -> bool
-    ensures { λ r. ⌜ r ≡ isNoted wide faults ⌝ }
-{
-    faults.sum / 256 % 2 == 1
-}
-
-pub fn is_not_text(faults: Faults) -> bool
-    ensures { λ r. ⌜ r ≡ isNoted notText faults ⌝ }
-{
-    faults.sum / 512 % 2 == 1
-}
-
-// The sum of the values of the faults met.
-pub fn sum_of(faults: Faults) -> u64
-    ensures { λ r. ⌜ r ≡ sumIn faults ⌝ }
-{
-    faults.sum
-}
-
 // The type byte.
 fn type_of(part: &[u8], mark: Mark) -> Typed
     ensures { λ r. ⌜ r ≡ typedAt mark (now (part .entry)) ⌝ }
@@ -308,7 +195,7 @@ fn span_of(part: &[u8], modes: Modes, faults: Faults) -> Span
             Span::Part {
                 begin: length,
                 end: length + (value as usize),
-                faults: with_long(modes, faults, minimal),
+                faults: faults::note(modes, faults, Flaw::Long, !minimal),
             }
         }
     }
@@ -331,7 +218,7 @@ fn text_of(part: &[u8], modes: Modes, faults: Faults) -> Span
                 return Span::Part {
                     begin: begin,
                     end: end,
-                    faults: with_text(modes, met, good),
+                    faults: faults::note(modes, met, Flaw::NotUtf8, !good),
                 };
             }
             Span::Part {
@@ -358,7 +245,7 @@ fn named(part: &[u8], from: usize, kind: Kind, modes: Modes, faults: Faults) -> 
             kind: kind,
             name: from + begin,
             start: from + end,
-            faults: with_blank(modes, met, begin == end),
+            faults: faults::note(modes, met, Flaw::Blank, begin == end),
         },
     }
 }
@@ -429,7 +316,7 @@ fn positive(part: &[u8], modes: Modes, faults: Faults) -> Heading
             minimal,
         } => Heading::Leaf {
             end: length,
-            faults: with_long(modes, faults, minimal),
+            faults: faults::note(modes, faults, Flaw::Long, !minimal),
         },
     }
 }
@@ -445,9 +332,10 @@ fn negative(part: &[u8], modes: Modes, faults: Faults) -> Heading
             minimal,
         } => Heading::Leaf {
             end: length,
-            faults: with_low(
+            faults: faults::note(
                 modes,
-                with_long(modes, faults, minimal),
+                faults::note(modes, faults, Flaw::Long, !minimal),
+                Flaw::Low,
                 !(value < 0x8000000000000000),
             ),
         },
@@ -461,7 +349,7 @@ fn float64(part: &[u8], modes: Modes, faults: Faults) -> Heading
         number::Fixed64::Cut => Heading::Stop(Stop::Early),
         number::Fixed64::Whole(bits) => Heading::Leaf {
             end: 8,
-            faults: with_wide(modes, faults, float::float32_holds(bits)),
+            faults: faults::note(modes, faults, Flaw::Wide, float::float32_holds(bits)),
         },
     }
 }
@@ -495,7 +383,7 @@ fn custom_by_id(part: &[u8], begin: usize, end: usize, modes: Modes, faults: Fau
             minimal,
         } => Heading::Leaf {
             end: end,
-            faults: with_long(modes, faults, minimal),
+            faults: faults::note(modes, faults, Flaw::Long, !minimal),
         },
     }
 }
@@ -557,7 +445,7 @@ fn items(part: &[u8], begin: usize, end: usize, modes: Modes, faults: Faults) ->
             count: value,
             begin: begin + length,
             end: end,
-            faults: with_long(modes, faults, minimal),
+            faults: faults::note(modes, faults, Flaw::Long, !minimal),
         },
     }
 }
@@ -605,7 +493,7 @@ fn shared_items(part: &[u8], begin: usize, end: usize, modes: Modes, faults: Fau
             value,
             begin + length,
             end,
-            with_long(modes, faults, minimal),
+            faults::note(modes, faults, Flaw::Long, !minimal),
         ),
     }
 }

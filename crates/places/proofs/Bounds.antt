@@ -17,7 +17,8 @@ use Rattle.places.specs.declared.Step.{Step}
 use Rattle.places.specs.declared.Step.the-variants.{Field, NoMore, WrongKind, Fault}
 use Rattle.places.specs.declared.Found.{Found}
 use Rattle.places.specs.declared.Found.the-variants as F
-use Rattle.format.specs.Parse.{Flaw, Out, fault, got, withFlaws, bind, fill}
+use Rattle.format.specs.declared.Flaw.{Flaw}
+use Rattle.format.specs.Parse.{Out, fault, got, withFlaws, bind, fill}
 use Rattle.format.specs.Payload.{front, head}
 use Rattle.format.specs.Reader.{contents, readNode, read}
 use Rattle.places.specs.Places.{step, lookAt, lookFrom}

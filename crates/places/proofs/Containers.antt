@@ -15,7 +15,8 @@ use Rattle.format.specs.declared.Form.{Form}
 use Rattle.format.specs.declared.Form.the-variants.{Field, Item, SharedField, SharedItem}
 use Rattle.format.specs.declared.Stop.the-variants.{BadUniform}
 use Rattle.format.specs.Kinds.{typeByte, kindAt, isBare}
-use Rattle.format.specs.Parse.{Flaw, Out, fault, got, bind, make, readVarUInt}
+use Rattle.format.specs.declared.Flaw.{Flaw}
+use Rattle.format.specs.Parse.{Out, fault, got, bind, make, readVarUInt}
 use Rattle.format.specs.Tree.{Leaf}
 use Rattle.format.specs.Payload.{leaf, payload, Head, value, fieldsIn, itemsIn, sharedFieldsOf, readSharedFields, sharedItemsOf, readSharedItems, readFields, readItems, head}
 use Rattle.places.specs.Show.{Opens, Before}

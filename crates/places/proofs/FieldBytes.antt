@@ -26,7 +26,9 @@ use Rattle.format.specs.declared.Form.{Form}
 use Rattle.format.specs.declared.Form.the-variants.{Top, Field, Item, SharedField, SharedItem}
 use Rattle.format.specs.declared.Stop.the-variants.{Early}
 use Rattle.format.specs.Kinds.{typeByte, kindAt, isBare}
-use Rattle.format.specs.Parse.{Flaw, long, low, wide, notText, blank, Out, fault, got, bind, raise, make, whole, number, readVarUInt, fixed, sized, rest}
+use Rattle.format.specs.declared.Flaw.{Flaw}
+use Rattle.format.specs.declared.Flaw.the-variants.{Long, Low, Wide, NotUtf8, Blank}
+use Rattle.format.specs.Parse.{Out, fault, got, bind, raise, make, whole, number, readVarUInt, fixed, sized, rest}
 use Rattle.format.specs.Names.{isEmpty, readText, readName}
 use Rattle.format.specs.Tree.{Leaf, integer, float, binary, string, objectAttachment, binaryAttachment, hash, uuid, objectId, dateTime, timeSpan}
 use Rattle.format.specs.Payload.{kindFound, readType, front, float32, float64, readNegative, readFloat64, readCustomById, readCustomByName, payload, Head, value, readSharedFields, readSharedItems, readFields, readItems, head}
@@ -46,7 +48,7 @@ number-taken s {v} {fs} {r} h = go (varUInt s) h
   where
     go : (o : VarUInt) → number o s ≡ got v fs r → drop (taken o) s ≡ r
     go Cut h = never h
-    go (Whole u n x) h = raise-got (not x) long (got u [] (drop n s)) h λ gs k. cc
+    go (Whole u n x) h = raise-got (not x) Long (got u [] (drop n s)) h λ gs k. cc
 
 -- the size w, the bytes b that it counts, and what follows
 pub sized-read : {A X : Type 0} (p : List ℕ → Out A) (s : List ℕ) {a : A} {fs : List Flaw} {r : List ℕ} → sized p s ≡ got a fs r
@@ -77,8 +79,8 @@ Fronting f s x q = (w : List ℕ) × (s ≡ w ++ (x .0 ++ q)) × Stood f (x .1) 
 
 name-read : (s : List ℕ) {n : List ℕ} {fs : List Flaw} {q : List ℕ} → readName s ≡ got n fs q → (w : List ℕ) × (s ≡ w ++ (n ++ q)) × Reads readVarUInt w (length n)
 name-read s {n} {fs} {q} h =
-    bind-got (readText s) _ h λ b es r gs e i _. raise-got (isEmpty b) blank (got b [] r) i λ _ j.
-    bind-got (sized rest s) _ e λ c es′ r′ gs′ e′ i′ _. raise-got (not (isText c)) notText (got c [] r′) i′ λ _ j′.
+    bind-got (readText s) _ h λ b es r gs e i _. raise-got (isEmpty b) Blank (got b [] r) i λ _ j.
+    bind-got (sized rest s) _ e λ c es′ r′ gs′ e′ i′ _. raise-got (not (isText c)) NotUtf8 (got c [] r′) i′ λ _ j′.
     sized-read rest s e′ λ w v _ m es f _ _.
     let z : v ≡ n = cc in
     let y : r′ ≡ q = cc in
@@ -172,7 +174,7 @@ pub sized-takes : {A : Type 0} (p : List ℕ → Out A) (s : List ℕ) {a : A} {
 sized-takes p s h = sized-got p s h λ pre b gs e es l. omega (arith, simp length-append at (ap length es))
 
 text-takes : (s : List ℕ) {b : List ℕ} {fs : List Flaw} {r : List ℕ} → readText s ≡ got b fs r → length r < length s
-text-takes s {b} {fs} {r} h = bind-got (sized rest s) _ h λ a es q gs e k _. raise-got (not (isText a)) notText (got a [] q) k λ _ j.
+text-takes s {b} {fs} {r} h = bind-got (sized rest s) _ h λ a es q gs e k _. raise-got (not (isText a)) NotUtf8 (got a [] q) k λ _ j.
     let z : q ≡ r = cc in omega (arith, sized-takes rest s e, ap length z)
 
 -- where it reads, it uses up a byte at least
@@ -206,9 +208,9 @@ head-takes UniformArray s b e = sized-takes (λ b. bind (readVarUInt b) readShar
 head-takes Binary s {h} {fs} {r} b e = takes-make value (λ s. make binary (sized rest s)) (takes-make binary (sized rest) (λ s a fs r h. sized-takes rest s h)) s h fs r e
 head-takes String s {h} {fs} {r} b e = takes-make value (λ s. make string (readText s)) (takes-make string readText (λ s a fs r h. text-takes s h)) s h fs r e
 head-takes IntegerPositive s {h} {fs} {r} b e = takes-make value (λ s. make (λ m. integer (pos m)) (readVarUInt s)) (takes-make (λ m. integer (pos m)) readVarUInt (λ s a fs r h. number-takes s h)) s h fs r e
-head-takes IntegerNegative s {h} {fs} {r} b e = takes-make value readNegative (takes-raise (λ m. not (ltb m (2 ^ 63))) low (λ m. integer (negsuc m)) readVarUInt (λ s a fs r h. number-takes s h)) s h fs r e
+head-takes IntegerNegative s {h} {fs} {r} b e = takes-make value readNegative (takes-raise (λ m. not (ltb m (2 ^ 63))) Low (λ m. integer (negsuc m)) readVarUInt (λ s a fs r h. number-takes s h)) s h fs r e
 head-takes Float32 s {h} {fs} {r} b e = takes-bytes 4 (omega arith) (λ b. float (float32 (fromBytes b))) s h fs r e
-head-takes Float64 s {h} {fs} {r} b e = takes-make value readFloat64 (takes-raise (λ b. holds (fromBytes b)) wide (λ b. float (float64 (fromBytes b))) (fixed 8) (takes-fixed 8 (omega arith))) s h fs r e
+head-takes Float64 s {h} {fs} {r} b e = takes-make value readFloat64 (takes-raise (λ b. holds (fromBytes b)) Wide (λ b. float (float64 (fromBytes b))) (fixed 8) (takes-fixed 8 (omega arith))) s h fs r e
 head-takes False s b e = bare-never b
 head-takes True s b e = bare-never b
 head-takes ObjectAttachment s {h} {fs} {r} b e = takes-bytes 20 (omega arith) objectAttachment s h fs r e

@@ -19,7 +19,9 @@ use Rattle.format.specs.declared.Kind.the-variants.{Null, Object, UniformObject
 use Rattle.format.specs.declared.Known.the-variants.{Is}
 use Rattle.places.specs.declared.Place.{Place}
 use Rattle.format.specs.Kinds.{hasSize}
-use Rattle.format.specs.Parse.{Flaw, low, wide, notText, Out, got, make, readVarUInt, fixed, sized, rest}
+use Rattle.format.specs.declared.Flaw.{Flaw}
+use Rattle.format.specs.declared.Flaw.the-variants.{Low, Wide, NotUtf8}
+use Rattle.format.specs.Parse.{Out, got, make, readVarUInt, fixed, sized, rest}
 use Rattle.format.specs.Names.{readText}
 use Rattle.format.specs.Tree.{number, nan32, nan64, Leaf, null, bool, integer, float, binary, string, objectAttachment, binaryAttachment, hash, uuid, objectId, dateTime, timeSpan, customById, customByName}
 use Rattle.format.specs.Payload.{float32, float64, readNegative, readFloat64, readCustomById, readCustomByName, payload, value, fieldsIn, itemsIn, head}
@@ -56,7 +58,7 @@ bytes-viewed n f s e c = value-got (make f (fixed n s)) e λ es i. made-got f (f
 
 text-read : {X : Type 0} (s : List ℕ) {n : List ℕ} {fs : List Flaw} {q : List ℕ} → readText s ≡ got n fs q → ((w : List ℕ) → s ≡ w ++ (n ++ q) → Reads readVarUInt w (length n) → X) → X
 text-read s {n} {fs} {q} h c =
-    bind-got (sized rest s) _ h λ t es r gs e i _. raise-got (not (isText t)) notText (got t [] r) i λ _ j.
+    bind-got (sized rest s) _ h λ t es r gs e i _. raise-got (not (isText t)) NotUtf8 (got t [] r) i λ _ j.
     sized-read rest s e λ w v _ m es f _ _.
     let z : v ≡ n = cc in
     let y : r ≡ q = cc in
@@ -87,20 +89,20 @@ leaf-viewed Binary s v fs e = value-got (make binary (sized rest s)) e λ es i. 
     let y : t ≡ b = cc in
     rw z (refl, d ∙ append-nil t ∙ y)
 leaf-viewed String s v fs e = value-got (make string (readText s)) e λ es i. made-got string (readText s) i λ b gs j z.
-    bind-got (sized rest s) _ j λ c es′ q gs′ i′ k _. raise-got (not (isText c)) notText (got c [] q) k λ _ j′.
+    bind-got (sized rest s) _ j λ c es′ q gs′ i′ k _. raise-got (not (isText c)) NotUtf8 (got c [] q) k λ _ j′.
     sized-read rest s i′ λ w t hs m _ _ d _.
     let y : t ≡ b = cc in
     let x : q ≡ [] = cc in
     rw z (refl, d ∙ (ap (λ r. t ++ r) x ∙ (append-nil t ∙ y)))
 leaf-viewed IntegerPositive s v fs e = value-got (make (λ m. integer (pos m)) (readVarUInt s)) e λ es i. made-got (λ m. integer (pos m)) (readVarUInt s) i λ m gs j z. rw z (refl, (gs, j))
 leaf-viewed IntegerNegative s v fs e = value-got (readNegative s) e λ es i.
-    bind-got (readVarUInt s) _ i λ m es′ q gs′ i′ k _. raise-got (not (ltb m (2 ^ 63))) low (got (integer (negsuc m)) [] q) k λ _ j.
+    bind-got (readVarUInt s) _ i λ m es′ q gs′ i′ k _. raise-got (not (ltb m (2 ^ 63))) Low (got (integer (negsuc m)) [] q) k λ _ j.
     let z : v ≡ integer (negsuc m) = cc in
     let y : q ≡ [] = cc in
     rw z (refl, (es′, rw y at i′))
 leaf-viewed Float32 s v fs e = bytes-viewed 4 (λ b. float (float32 (fromBytes b))) s e λ l z. rw z (float32-viewed s l)
 leaf-viewed Float64 s v fs e = value-got (readFloat64 s) e λ es i.
-    bind-got (fixed 8 s) _ i λ b es′ q gs′ i′ k _. raise-got (holds (fromBytes b)) wide (got (float (float64 (fromBytes b))) [] q) k λ _ j.
+    bind-got (fixed 8 s) _ i λ b es′ q gs′ i′ k _. raise-got (holds (fromBytes b)) Wide (got (float (float64 (fromBytes b))) [] q) k λ _ j.
     fixed-got 8 s i′ λ w l.
     let z : v ≡ float (float64 (fromBytes b)) = cc in
     let x : q ≡ [] = cc in

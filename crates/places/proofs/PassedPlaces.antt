@@ -19,7 +19,8 @@ use Rattle.places.specs.declared.After.the-variants.{Start, Last}
 use Rattle.places.specs.declared.Step.the-variants.{Field, NoMore, WrongKind, Fault}
 use Rattle.format.specs.Limits.{depthLimit, lengthLimit}
 use Rattle.format.specs.Kinds.{id, known}
-use Rattle.format.specs.Parse.{Flaw, Out, fault, got}
+use Rattle.format.specs.declared.Flaw.{Flaw}
+use Rattle.format.specs.Parse.{Out, fault, got}
 use Rattle.format.specs.Tree.{Leaf}
 use Rattle.format.specs.Payload.{Head, value, fieldsIn, itemsIn, front, head}
 use Rattle.places.specs.Places.{payloadAt, check, placeOf, met, meet, stepOf, from, stepIn, stepFrom, step}

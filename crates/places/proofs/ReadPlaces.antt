@@ -18,7 +18,8 @@ use Rattle.format.specs.declared.Form.{Form}
 use Rattle.places.specs.declared.Place.{Place}
 use Rattle.format.specs.Limits.{depthLimit, lengthLimit}
 use Rattle.format.specs.Kinds.{id, hasSize}
-use Rattle.format.specs.Parse.{Flaw, got}
+use Rattle.format.specs.declared.Flaw.{Flaw}
+use Rattle.format.specs.Parse.{got}
 use Rattle.format.specs.Tree.{Node}
 use Rattle.format.specs.Payload.{Head, front, head}
 use Rattle.format.specs.Reader.{Standing, Named, Layout, contents, readNode, readField, read}

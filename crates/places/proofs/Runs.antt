@@ -3,7 +3,8 @@ use Prim.Native.Nat.{ℕ, zero, suc}
 use mathlib.Core.Path.{_≡_, refl, ap, subst}
 use mathlib.Core.List.{List, [], _∷_, map}
 use lib.ListN.{length}
-use Rattle.format.specs.Parse.{Flaw, Out, got, many, fill}
+use Rattle.format.specs.declared.Flaw.{Flaw}
+use Rattle.format.specs.Parse.{Out, got, many, fill}
 use Rattle.format.proofs.Back.{never}
 use Rattle.format.proofs.Local.{bind-got}
 

@@ -19,7 +19,9 @@ use Rattle.places.specs.declared.Top.the-variants as T
 use Rattle.format.specs.Limits.{depthLimit, lengthLimit}
 use Rattle.format.specs.Kinds.{isUniform, isUniformArray}
 use Rattle.format.specs.Names.{twins}
-use Rattle.format.specs.Parse.{Flaw, twin, notUniform, got, raise, many, fill}
+use Rattle.format.specs.declared.Flaw.{Flaw}
+use Rattle.format.specs.declared.Flaw.the-variants.{Twin, NotUniform}
+use Rattle.format.specs.Parse.{got, raise, many, fill}
 use Rattle.format.specs.Tree.{Node, atom, array, object}
 use Rattle.format.specs.Payload.{payload, Head, value, fieldsIn, itemsIn, front, head}
 use Rattle.format.specs.Reader.{Standing, Named, Layout, kindsIn, namesIn, isTyped, contents, readNode, read}
@@ -105,7 +107,7 @@ shown-node d s c x m rec i = go (i .above) (x .1) (i .body) (found m i) (head-bo
         })
     go (itemsIn f n b) t e ok o k h =
         bind-got (many (read d f) n b) _ e λ xs es q gs j l _.
-        raise-got (isTyped f && isUniformArray (kindsIn xs)) notUniform (got (array (map (λ x. x .1) xs)) [] q) l λ _ l′.
+        raise-got (isTyped f && isUniformArray (kindsIn xs)) NotUniform (got (array (map (λ x. x .1) xs)) [] q) l λ _ l′.
         let z : array (map (λ x. x .1) xs) ≡ t = cc in
         let y : q ≡ [] = cc in
         let run = run-many (read d f) n b xs es (rw y at j) in
@@ -117,8 +119,8 @@ shown-node d s c x m rec i = go (i .above) (x .1) (i .body) (found m i) (head-bo
         })
     go (fieldsIn f b) t e ok o k h =
         bind-got (fill (read d f) (length b) b) _ e λ xs es q gs j l _.
-        raise-got (isTyped f && isUniform (kindsIn xs)) notUniform (raise (twins (namesIn xs)) twin (got (object xs) [] q)) l λ _ l′.
-        raise-got (twins (namesIn xs)) twin (got (object xs) [] q) l′ λ _ l″.
+        raise-got (isTyped f && isUniform (kindsIn xs)) NotUniform (raise (twins (namesIn xs)) Twin (got (object xs) [] q)) l λ _ l′.
+        raise-got (twins (namesIn xs)) Twin (got (object xs) [] q) l′ λ _ l″.
         let z : object xs ≡ t = cc in
         let w = shown-fields f b xs (λ ks. Unit {0}) (λ l. rw ok) (fields-start s c f b (i .above-flaws) [] ok) (o .1) (k .1) tt (fields-answered s c (i .above-flaws) f b ok) (run-fill (read d f) (length b) b xs es q j) in
         let few = walk-few (Shown d s) s c (payload (x .0)) (w .contents) Start (w .places) xs (w .walk) in

@@ -17,7 +17,8 @@ use Rattle.places.specs.declared.Step.the-variants.{Field, NoMore}
 use Rattle.places.specs.declared.Found.{Found}
 use Rattle.places.specs.declared.Found.the-variants as F
 use Rattle.format.specs.Limits.{depthLimit}
-use Rattle.format.specs.Parse.{Flaw, got}
+use Rattle.format.specs.declared.Flaw.{Flaw}
+use Rattle.format.specs.Parse.{got}
 use Rattle.format.specs.Payload.{Payload}
 use Rattle.format.specs.Reader.{Standing, Named, Layout, read}
 use Rattle.places.specs.Places.{met, meet, from, stepIn, step, nameView, lookAt, lookFrom}

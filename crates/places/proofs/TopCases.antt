@@ -10,8 +10,8 @@ use Rattle.format.specs.declared.Form.{Form}
 use Rattle.format.specs.declared.Form.the-variants as Fo
 use Rattle.format.specs.declared.Stop.{Stop}
 use Rattle.format.specs.declared.Stop.the-variants.{TooLong}
-use Rattle.head.specs.declared.Modes.{Modes}
-use Rattle.head.specs.declared.Faults.{Faults}
+use Rattle.faults.specs.declared.Modes.{Modes}
+use Rattle.faults.specs.declared.Faults.{Faults}
 use Rattle.places.specs.declared.Place.{Place}
 use Rattle.places.specs.declared.Top.{Top}
 use Rattle.places.specs.declared.Top.the-variants as T
@@ -19,7 +19,8 @@ use Rattle.head.specs.declared.Met.{Met}
 use Rattle.head.specs.declared.Met.the-variants as M
 use Rattle.format.specs.Limits.{lengthLimit}
 use Rattle.format.specs.Kinds.{id}
-use Rattle.format.specs.Parse.{Flaw, Out, fault, got, withFlaws, bind, make}
+use Rattle.format.specs.declared.Flaw.{Flaw}
+use Rattle.format.specs.Parse.{Out, fault, got, withFlaws, bind, make}
 use Rattle.format.specs.Payload.{front, Head, value, fieldsIn, itemsIn, head}
 use Rattle.places.specs.Places.{placeOf, met, meet, topOf, top, topAt}
 use Rattle.head.specs.Code.{answerOf, meeting, metIn, meetAt}

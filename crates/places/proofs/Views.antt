@@ -27,7 +27,9 @@ use Rattle.places.specs.declared.Checked.the-variants as C
 use Rattle.places.specs.declared.Part.the-variants as P
 use Rattle.places.specs.declared.Top.the-variants as T
 use Rattle.format.specs.Kinds.{id, known, hasSize, typeByte}
-use Rattle.format.specs.Parse.{Flaw, long, Out, fault, got, number, readVarUInt}
+use Rattle.format.specs.declared.Flaw.{Flaw}
+use Rattle.format.specs.declared.Flaw.the-variants.{Long}
+use Rattle.format.specs.Parse.{Out, fault, got, number, readVarUInt}
 use Rattle.format.specs.Tree.{Node, atom, array, object}
 use Rattle.format.specs.Payload.{Payload, leaf, fields, sharedFields, items, sharedItems, payload, Head}
 use Rattle.format.specs.Reader.{Standing, Named, Layout, kindsIn}
@@ -106,7 +108,7 @@ size-taken w x n r = go (varUInt w) refl (r .1)
   where
     go : (o : VarUInt) → varUInt w ≡ o → number o w ≡ got n (r .0) [] → taken (varUInt (w ++ x)) ≡ length w
     go Cut e h = never h
-    go (Whole v k m) e h = raise-got (not m) long (got v [] (drop k w)) h λ gs j.
+    go (Whole v k m) e h = raise-got (not m) Long (got v [] (drop k w)) h λ gs j.
         let z : drop k w ≡ [] = cc in
         let t : take k w ≡ w = sym (append-nil (take k w)) ∙ ap (λ y. take k w ++ y) (sym z) ∙ take-append-drop k w in
         let i = var-range w v k m e in

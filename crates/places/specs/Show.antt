@@ -31,7 +31,8 @@ use Rattle.places.specs.declared.Checked.the-variants as C
 use Rattle.places.specs.declared.Top.the-variants as P
 use Rattle.format.specs.Limits.{depthLimit}
 use Rattle.format.specs.Kinds.{id, typeByte}
-use Rattle.format.specs.Parse.{Flaw, Out, got, readVarUInt}
+use Rattle.format.specs.declared.Flaw.{Flaw}
+use Rattle.format.specs.Parse.{Out, got, readVarUInt}
 use Rattle.format.specs.Tree.{Float, number, nan32, nan64, Leaf, null, bool, integer, float, binary, string, objectAttachment, binaryAttachment, hash, uuid, objectId, dateTime, timeSpan, customById, customByName, Node, atom, array, object}
 use Rattle.format.specs.Payload.{Payload, leaf, fields, sharedFields, items, sharedItems, payload}
 use Rattle.format.specs.Reader.{Standing, Named, Layout, tree, kindsIn, read, treeOf}

@@ -1,9 +1,9 @@
 // Places, and what the calls on them answer ("Places, views and values").
+use faults::Modes;
 use format::Form;
 use format::Kind;
 use format::Stop;
 use head::Met;
-use head::Modes;
 ghost use mathlib.Core.Path.{_≡_};
 ghost use Rattle.places.specs.Places.{top, topAt};
 
@@ -32,7 +32,7 @@ impl Place {
             names: false,
             format: false,
         };
-        match head::meet_of(payload, Form::Top, modes, head::no_faults()) {
+        match head::meet_of(payload, Form::Top, modes, faults::no_faults()) {
             Met::Stop(stop) => Top::Fault(stop),
             Met::Leaf {
                 kind,

@@ -19,7 +19,8 @@ use Rattle.places.specs.declared.Checked.the-variants as C
 use Rattle.places.specs.declared.Step.the-variants as St
 use Rattle.format.specs.Limits.{depthLimit, lengthLimit}
 use Rattle.format.specs.Kinds.{id}
-use Rattle.format.specs.Parse.{Flaw, Out, fault, got}
+use Rattle.format.specs.declared.Flaw.{Flaw}
+use Rattle.format.specs.Parse.{Out, fault, got}
 use Rattle.format.specs.Payload.{Head, value, fieldsIn, itemsIn, front, head}
 use Rattle.places.specs.Places.{check, checked, placeOf, met, meet, stepOf, from, stepIn, stepFrom, step}
 use Rattle.format.proofs.Lists.{append-nil}

@@ -7,13 +7,14 @@ use lib.ListN.{length, length-append}
 use Rattle.format.specs.declared.Kind.{Kind}
 use Rattle.format.specs.declared.Form.{Form}
 use Rattle.format.specs.declared.Stop.{Stop}
-use Rattle.head.specs.declared.Modes.{Modes}
-use Rattle.head.specs.declared.Faults.{Faults}
+use Rattle.faults.specs.declared.Modes.{Modes}
+use Rattle.faults.specs.declared.Faults.{Faults}
 use Rattle.head.specs.declared.Met.{Met}
 use Rattle.head.specs.declared.Met.the-variants as M
 use Rattle.places.specs.declared.Place.{Place}
 use Rattle.format.specs.Kinds.{id}
-use Rattle.format.specs.Parse.{Flaw, Out, fault, got, withFlaws, bind, make}
+use Rattle.format.specs.declared.Flaw.{Flaw}
+use Rattle.format.specs.Parse.{Out, fault, got, withFlaws, bind, make}
 use Rattle.format.specs.Payload.{Head, value, fieldsIn, itemsIn, front, head}
 use Rattle.places.specs.Places.{placeOf, met}
 use Rattle.head.specs.Code.{answerOf, meeting, metIn, meetAt}

@@ -26,7 +26,8 @@ use Rattle.places.specs.declared.Found.{Found}
 use Rattle.places.specs.declared.Found.the-variants as F
 use Rattle.format.specs.Kinds.{kindAt, isBare}
 use Rattle.format.specs.Limits.{lengthLimit}
-use Rattle.format.specs.Parse.{Flaw, Out, fault, got, bind, make, readVarUInt, sized}
+use Rattle.format.specs.declared.Flaw.{Flaw}
+use Rattle.format.specs.Parse.{Out, fault, got, bind, make, readVarUInt, sized}
 use Rattle.format.specs.Tree.{Leaf}
 use Rattle.format.specs.Payload.{Payload, leaf, fields, sharedFields, items, sharedItems, payload, headBy, Head, value, fieldsIn, itemsIn, head, sharedFieldsOf, readSharedFields, sharedItemsOf, readSharedItems, readFields, readItems}
 use Rattle.places.specs.Places.{check, from, stepIn, stepFrom, step, lookAt, lookFrom, lookIn, lookup}

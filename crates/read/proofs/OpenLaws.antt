@@ -15,8 +15,8 @@ use Rattle.format.specs.declared.Form.{Form}
 use Rattle.format.specs.declared.Stop.{Stop}
 use Rattle.format.specs.declared.Stop.the-variants.{Early, TooDeep, TooLong}
 use Rattle.format.specs.declared.Stop.the-variants as S
-use Rattle.head.specs.declared.Modes.{Modes}
-use Rattle.head.specs.declared.Faults.{Faults}
+use Rattle.faults.specs.declared.Modes.{Modes}
+use Rattle.faults.specs.declared.Faults.{Faults}
 use Rattle.head.specs.declared.Heading.{Heading}
 use Rattle.head.specs.declared.Heading.the-variants as H
 use Rattle.places.specs.declared.Place.{Place}
@@ -24,7 +24,8 @@ use Rattle.places.specs.declared.Checked.{Checked}
 use Rattle.places.specs.declared.Checked.the-variants as C
 use Rattle.format.specs.Limits.{depthLimit, lengthLimit}
 use Rattle.format.specs.Kinds.{id, known}
-use Rattle.format.specs.Parse.{Flaw, Out, fault, got, whole}
+use Rattle.format.specs.declared.Flaw.{Flaw}
+use Rattle.format.specs.Parse.{Out, fault, got, whole}
 use Rattle.format.specs.Payload.{Head, value, fieldsIn, itemsIn, head}
 use Rattle.places.specs.Places.{payloadAt, check, checkedOf, checked}
 use Rattle.head.specs.Code.{answerOf, headingOf, headAt}

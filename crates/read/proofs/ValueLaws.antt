@@ -43,7 +43,9 @@ use Rattle.places.specs.declared.Ticks.{Ticks}
 use Rattle.places.specs.declared.Ticks.the-variants as T
 use Rattle.format.specs.Limits.{depthLimit, lengthLimit}
 use Rattle.format.specs.Kinds.{id, known, kindAt, isBare}
-use Rattle.format.specs.Parse.{Flaw, low, wide, long, Out, fault, got, bind, raise, make, whole, readVarUInt, fixed, sized, rest}
+use Rattle.format.specs.declared.Flaw.{Flaw}
+use Rattle.format.specs.declared.Flaw.the-variants.{Low, Wide, Long}
+use Rattle.format.specs.Parse.{Out, fault, got, bind, raise, make, whole, readVarUInt, fixed, sized, rest}
 use Rattle.format.specs.Parse as parse
 use Rattle.format.specs.Names.{readText}
 use Rattle.format.specs.Tree.{Float, Leaf, null, bool, integer, float, binary, string, objectAttachment, binaryAttachment, hash, uuid, objectId, dateTime, timeSpan, customById, customByName}
@@ -95,7 +97,7 @@ number-is t s {m} {fs} {r} h = at (varUInt s) h
   where
     at : (o : VarUInt) → parse.number o s ≡ got m fs r → integerIn t o ≡ integerBy t m
     at N.Cut h = never h
-    at (N.Whole v n x) h = raise-got (not x) long (got v [] (drop n s)) h λ gs k. let z : v ≡ m = cc in ap (integerBy t) z
+    at (N.Whole v n x) h = raise-got (not x) Long (got v [] (drop n s)) h λ gs k. let z : v ≡ m = cc in ap (integerBy t) z
 
 fixed-is : (n : ℕ) (s : List ℕ) {b : List ℕ} {fs : List Flaw} {r : List ℕ} → fixed n s ≡ got b fs r → (ltb (length s) n ≡ false) × (take n s ≡ b)
 unfolding fixed
@@ -170,12 +172,12 @@ leaf-value UniformArray s h = sized-got (λ b. bind (readVarUInt b) readSharedIt
 leaf-value Binary s h = made binary (sized rest s) Va.Other h λ a gs q e. refl
 leaf-value String s h = made string (readText s) Va.Other h λ a gs q e. refl
 leaf-value IntegerPositive s h = made (λ m. integer (pos m)) (readVarUInt s) (integerIn false (varUInt s)) h λ a gs q e. number-is false s e
-leaf-value IntegerNegative s {v} h = bind-got (bind (readVarUInt s) λ m r. raise (not (ltb m (2 ^ 63))) low (got (integer (minusPlusOne m)) [] r)) _ h λ u es q gs e i _.
-    bind-got (readVarUInt s) _ e λ m es′ q′ gs′ e′ i′ _. raise-got (not (ltb m (2 ^ 63))) low (got (integer (minusPlusOne m)) [] q′) i′ λ _ j.
+leaf-value IntegerNegative s {v} h = bind-got (bind (readVarUInt s) λ m r. raise (not (ltb m (2 ^ 63))) Low (got (integer (minusPlusOne m)) [] r)) _ h λ u es q gs e i _.
+    bind-got (readVarUInt s) _ e λ m es′ q′ gs′ e′ i′ _. raise-got (not (ltb m (2 ^ 63))) Low (got (integer (minusPlusOne m)) [] q′) i′ λ _ j.
     let z : integer (negsuc m) ≡ v = cc in subst (Shows (integerIn true (varUInt s))) z (number-is true s e′)
 leaf-value Float32 s h = made (λ b. float (float32 (fromBytes b))) (fixed 4 s) (float32In (fixed32 s)) h λ a gs q e. let w = fixed-is 4 s e in rw (w .0, w .1, bits32 (fromBytes a))
-leaf-value Float64 s {v} h = bind-got (bind (fixed 8 s) λ b r. raise (holds (fromBytes b)) wide (got (float (float64 (fromBytes b))) [] r)) _ h λ u es q gs e i _.
-    bind-got (fixed 8 s) _ e λ b es′ q′ gs′ e′ i′ _. raise-got (holds (fromBytes b)) wide (got (float (float64 (fromBytes b))) [] q′) i′ λ _ j.
+leaf-value Float64 s {v} h = bind-got (bind (fixed 8 s) λ b r. raise (holds (fromBytes b)) Wide (got (float (float64 (fromBytes b))) [] r)) _ h λ u es q gs e i _.
+    bind-got (fixed 8 s) _ e λ b es′ q′ gs′ e′ i′ _. raise-got (holds (fromBytes b)) Wide (got (float (float64 (fromBytes b))) [] q′) i′ λ _ j.
     let w = fixed-is 8 s e′ in
     let z : float (float64 (fromBytes b)) ≡ v = cc in
     subst (Shows (float64In (fixed64 s))) z (rw (w .0, w .1, bits64 (fromBytes b)))

@@ -30,7 +30,8 @@ use Rattle.places.specs.declared.Part.{Part}
 use Rattle.places.specs.declared.Part.the-variants as P
 use Rattle.format.specs.Limits.{depthLimit}
 use Rattle.format.specs.Kinds.{id, known, hasSize}
-use Rattle.format.specs.Parse.{Flaw, Out, fault, got, bind}
+use Rattle.format.specs.declared.Flaw.{Flaw}
+use Rattle.format.specs.Parse.{Out, fault, got, bind}
 use Rattle.format.specs.Payload.{Head, value, fieldsIn, itemsIn, front, head}
 use Rattle.places.specs.Places.{check, checkedOf, checked, placeOf, met, meet, stepOf, from, stepIn, stepFrom, step, nameIn, nameView, taken, sizeLength, partOf, part, viewOf, view}
 use Rattle.head.specs.Pieces.{between}

@@ -1,11 +1,11 @@
 // The reading calls ("Places, views and values"). A place may be forged: every call makes the whole check of its place first.
+use faults::Modes;
 use format::Form;
 use format::Kind;
 use format::Known;
 use format::Stop;
 use head::Heading;
 use head::Met;
-use head::Modes;
 use places::After;
 use places::Checked;
 use places::Double;
@@ -65,7 +65,7 @@ fn open_in(part: &[u8], kind: Kind, start: usize) -> Opened
         names: false,
         format: false,
     };
-    let faults = head::no_faults();
+    let faults = faults::no_faults();
     let length = part.len();
     match head::head_of(part, kind, modes, faults) {
         Heading::Stop(stop) => Opened::Stop(stop),
@@ -205,7 +205,7 @@ fn field_at(part: &[u8], form: Form, at: usize, depth: u32) -> Field
         names: false,
         format: false,
     };
-    let faults = head::no_faults();
+    let faults = faults::no_faults();
     match field_of(head::meet_of(part, form, modes, faults), depth) {
         Field::Stop(stop) => Field::Stop(stop),
         Field::Is(place, name) => Field::Is(

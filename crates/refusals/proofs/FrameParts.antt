@@ -12,7 +12,9 @@ use Rattle.format.specs.declared.Kind.{Kind}
 use Rattle.frames.specs.declared.Refusal.{Refusal}
 use Rattle.frames.specs.declared.Refusal.the-variants.{ListEnds, BadFrame, EmptyName, NameUsed, NotText}
 use Rattle.format.specs.Kinds.{any}
-use Rattle.format.specs.Parse.{Flaw, blank, long, low, notText, Out, fault, got, raise, make}
+use Rattle.format.specs.declared.Flaw.{Flaw}
+use Rattle.format.specs.declared.Flaw.the-variants.{Blank, Long, Low, NotUtf8}
+use Rattle.format.specs.Parse.{Out, fault, got, raise, make}
 use Rattle.format.specs.Names.{isEmpty, readText, readName}
 use Rattle.format.specs.Mask.{has}
 use Rattle.format.specs.Tree.{Leaf, Node, atom, array, object}
@@ -31,11 +33,11 @@ carried {A} {f} {r} {n} m o h = let z : m ≡ n = cc in (subst OfFrame z o, cc)
 -- ---- a name
 
 name-local : Local readName
-name-local = local-bind readText (λ n r. raise (isEmpty n) blank (got n [] r)) local-text (λ n. local-raise (isEmpty n) blank n)
+name-local = local-bind readText (λ n r. raise (isEmpty n) Blank (got n [] r)) local-text (λ n. local-raise (isEmpty n) Blank n)
 
 name-found : (f : List ℕ) (used : List (List ℕ)) (n : List ℕ) (fs : List Flaw) (r : List ℕ) {m q : List ℕ} → nameFound f used (got n fs r) ≡ framed m q
     → (r ≡ q) × ((f′ q′ : List ℕ) → nameFound f′ used (got n fs q′) ≡ framed m q′)
-name-found f used n fs r {m} {q} h = go (has long fs) (has blank fs) (has notText fs) (any (equal n) used) h
+name-found f used n fs r {m} {q} h = go (has Long fs) (has Blank fs) (has NotUtf8 fs) (any (equal n) used) h
   where
     go : (a b c d : Bool) → cond a (refused BadFrame f) (cond b (refused EmptyName f) (cond c (refused NotText f) (cond d (refused NameUsed f) (framed n r)))) ≡ framed m q
         → (r ≡ q) × ((f′ q′ : List ℕ) → cond a (refused BadFrame f′) (cond b (refused EmptyName f′) (cond c (refused NotText f′) (cond d (refused NameUsed f′) (framed n q′)))) ≡ framed m q′)
@@ -72,7 +74,7 @@ name-refused f (some used) s n r h = go (readName s) h
 
     go : (o : Out (List ℕ)) → nameFound f used o ≡ refused n r → OfFrame n × (f ≡ r)
     go (fault k) h = carried BadFrame tt h
-    go (got m fs u) h = all m u (has long fs) (has blank fs) (has notText fs) (any (equal m) used) h
+    go (got m fs u) h = all m u (has Long fs) (has Blank fs) (has NotUtf8 fs) (any (equal m) used) h
 
 -- ---- a leaf
 
@@ -93,7 +95,7 @@ leaf-local k p i s v fs r h =
         rw (← x, ← y, ← f) e
 
 leaf-found : (f : List ℕ) (v : Leaf) (fs : List Flaw) (r : List ℕ) {u : Leaf} {q : List ℕ} → leafFound f (got v fs r) ≡ framed u q → (r ≡ q) × ((f′ q′ : List ℕ) → leafFound f′ (got v fs q′) ≡ framed u q′)
-leaf-found f v fs r {u} {q} h = go (has long fs || has low fs) (has notText fs) h
+leaf-found f v fs r {u} {q} h = go (has Long fs || has Low fs) (has NotUtf8 fs) h
   where
     go : (a b : Bool) → cond a (refused BadFrame f) (cond b (refused NotText f) (framed v r)) ≡ framed u q
         → (r ≡ q) × ((f′ q′ : List ℕ) → cond a (refused BadFrame f′) (cond b (refused NotText f′) (framed v q′)) ≡ framed u q′)
@@ -111,7 +113,7 @@ leaf-refused f o n r h = go o h
 
     go : (o : Out Leaf) → leafFound f o ≡ refused n r → OfFrame n × (f ≡ r)
     go (fault k) h = carried BadFrame tt h
-    go (got v fs u) h = all v u (has long fs || has low fs) (has notText fs) h
+    go (got v fs u) h = all v u (has Long fs || has Low fs) (has NotUtf8 fs) h
 
 -- ---- a payload
 

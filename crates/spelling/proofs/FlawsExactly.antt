@@ -17,7 +17,8 @@ use Rattle.float.specs.Rule.{holds}
 use Rattle.format.specs.declared.Kind.{Kind}
 use Rattle.format.specs.declared.Kind.the-variants.{Object, Array, Float64}
 use Rattle.format.specs.Kinds.{same, all, any, isBare, isUniform, isUniformArray}
-use Rattle.format.specs.Parse.{Flaw, twin, blank, long, low, wide, notText, notUniform}
+use Rattle.format.specs.declared.Flaw.{Flaw}
+use Rattle.format.specs.declared.Flaw.the-variants.{Twin, Blank, Long, Low, Wide, NotUtf8, NotUniform}
 use Rattle.format.specs.Names.{isEmpty, twins}
 use Rattle.format.specs.Limits.{depthLimit}
 use Rattle.format.specs.Tree.{Float, Node}
@@ -149,13 +150,13 @@ not-uniform-exactly k ks = ((λ h. to (either (same k Object && isUniform ks) (s
 -- ---- the table
 
 pub part-exactly : (f : Flaw) (k : Kind) (n : Node Kind) → (flawedPart f k n ≡ true) ↔ FlawIn f k n
-part-exactly twin k n = twins-exactly (namesOf n)
-part-exactly blank k n = blank-exactly (namesOf n)
-part-exactly long k n = ((λ h. fails h), λ i. absurd i)
-part-exactly low k n = low-exactly (numberOf n)
-part-exactly wide k n = wide-exactly k (numberOf n)
-part-exactly notText k n = text-exactly (textsOf n)
-part-exactly notUniform k n = not-uniform-exactly k (inside n)
+part-exactly Twin k n = twins-exactly (namesOf n)
+part-exactly Blank k n = blank-exactly (namesOf n)
+part-exactly Long k n = ((λ h. fails h), λ i. absurd i)
+part-exactly Low k n = low-exactly (numberOf n)
+part-exactly Wide k n = wide-exactly k (numberOf n)
+part-exactly NotUtf8 k n = text-exactly (textsOf n)
+part-exactly NotUniform k n = not-uniform-exactly k (inside n)
 
 -- the layout's tests
 pub flawed-exactly : (f : Flaw) (d : ℕ) (x : Standing (Layout d)) → (flawed f d x ≡ true) ↔ HasFlaw f d x
@@ -166,17 +167,17 @@ flawed-exactly f d x =
           (part-exactly f (i .0 .0) (i .0 .1) .1 (i .2)),
     )
 
-not-long : (f : Flaw) → (f ≡ long → ⊥) → is f long ≡ false
-not-long twin h = refl
-not-long blank h = refl
-not-long long h = absurd (h refl)
-not-long low h = refl
-not-long wide h = refl
-not-long notText h = refl
-not-long notUniform h = refl
+not-long : (f : Flaw) → (f ≡ Long → ⊥) → is f Long ≡ false
+not-long Twin h = refl
+not-long Blank h = refl
+not-long Long h = absurd (h refl)
+not-long Low h = refl
+not-long Wide h = refl
+not-long NotUtf8 h = refl
+not-long NotUniform h = refl
 
 -- a flaw other than `long` was met exactly if some field of the layout has it
-pub met-exactly : (s : List ℕ) (i : ShownPayload s) (f : Flaw) → (f ≡ long → ⊥) → (has f (i .flaws) ≡ true) ↔ HasFlaw f depthLimit (i .kind, i .layout)
+pub met-exactly : (s : List ℕ) (i : ShownPayload s) (f : Flaw) → (f ≡ Long → ⊥) → (has f (i .flaws) ≡ true) ↔ HasFlaw f depthLimit (i .kind, i .layout)
 met-exactly s i f h =
     let e = met-is-flawed f (not-long f h) depthLimit s _ _ _ (i .was-read) in
     let j = flawed-exactly f depthLimit (i .kind, i .layout) in

@@ -10,7 +10,9 @@ use Rattle.format.specs.declared.Kind.the-variants.{Object, Array}
 use Rattle.format.specs.declared.Form.{Form}
 use Rattle.format.specs.declared.Form.the-variants.{Top}
 use Rattle.format.specs.Kinds.{same, any, isUniform, isUniformArray}
-use Rattle.format.specs.Parse.{Flaw, twin, blank, long, low, wide, notText, notUniform, got, many, fill}
+use Rattle.format.specs.declared.Flaw.{Flaw}
+use Rattle.format.specs.declared.Flaw.the-variants.{Twin, Blank, Long, Low, Wide, NotUtf8, NotUniform}
+use Rattle.format.specs.Parse.{got, many, fill}
 use Rattle.format.specs.Names.{twins}
 use Rattle.format.specs.Tree.{Node, atom, array, object, mapNode}
 use Rattle.format.specs.Payload.{Head, value, fieldsIn, itemsIn, front, head}
@@ -27,7 +29,7 @@ use Rattle.spelling.proofs.Tells.{is, Tells, Adds, tells-got, tells-bin
 use Rattle.spelling.proofs.FlawedParts.{array-is, nameFlawed, object-is}
 use Rattle.spelling.proofs.FlawsOfHeads.{isNamed, frontFlawed, HeadTells, tells-front, tells-head}
 
-module _ (f : Flaw) (shows : is f long ≡ false) where
+module _ (f : Flaw) (shows : is f Long ≡ false) where
   module _ {X : Type 0} (p : Reader X) (q : Standing X → Bool) where
     abbrev fieldFlawed : Form → Named (Standing X) → Bool
     fieldFlawed g x = (isNamed g && nameFlawed f (x .0)) || q (x .1)
@@ -37,14 +39,14 @@ module _ (f : Flaw) (shows : is f long ≡ false) where
 
     module _ (met : (g : Form) (c : Bool) (s : List ℕ) → Tells f c (Adds c (fieldFlawed g)) (p g s)) where
       items-flawed : (k : Kind) (g : Form) (c : Bool) (xs : List (Named (Standing X))) → isNamed g ≡ false → isTyped g ≡ same k Array → same k Object ≡ false
-          → (c || any (fieldFlawed g) xs || (is f notUniform && (isTyped g && isUniformArray (kindsIn xs)))) ≡ (c || nodeFlawed k (array (map (λ x. x .1) xs)))
+          → (c || any (fieldFlawed g) xs || (is f NotUniform && (isTyped g && isUniformArray (kindsIn xs)))) ≡ (c || nodeFlawed k (array (map (λ x. x .1) xs)))
       items-flawed k g c xs n t o =
           let a : any (fieldFlawed g) xs ≡ any q (map (λ x. x .1) xs) = any-map (fieldFlawed g) q (λ x. x .1) (λ x. rw n) xs in
           let m : map (λ (y : Standing X). y .0) (map (λ (x : Named (Standing X)). x .1) xs) ≡ kindsIn xs = map-map _ _ _ (λ x. refl) xs in
           rw (a, m, array-is f k (kindsIn xs) o, t) (or-assoc c _ _ ∙ ap (λ z. c || z) (or-comm (any q (map (λ x. x .1) xs)) _))
 
       fields-flawed : (k : Kind) (g : Form) (c : Bool) (xs : List (Named (Standing X))) → isNamed g ≡ true → isTyped g ≡ same k Object → same k Array ≡ false
-          → (c || any (fieldFlawed g) xs || (is f notUniform && (isTyped g && isUniform (kindsIn xs))) || (is f twin && twins (namesIn xs))) ≡
+          → (c || any (fieldFlawed g) xs || (is f NotUniform && (isTyped g && isUniform (kindsIn xs))) || (is f Twin && twins (namesIn xs))) ≡
           (c || nodeFlawed k (object xs))
       fields-flawed k g c xs n t o =
           let ys : List (Named Kind) = map (λ (x : Named (Standing X)). (x .0, x .1 .0)) xs in
@@ -67,13 +69,13 @@ module _ (f : Flaw) (shows : is f long ≡ false) where
       tells-contents k c d (value v) i = tells-got f d (Adds c (nodeFlawed k)) (atom v) [] (rw (or-false (flawedPart f k (atom v))) i)
       tells-contents k c d (itemsIn g n s) i =
           tells-bind f d (Adds d (any (fieldFlawed g))) _ (many (p g) n s) (asArray g) (tells-many f (fieldFlawed g) (p g) (met g) n d s) λ xs r b e.
-          tells-raise f b _ (isTyped g && isUniformArray (kindsIn xs)) notUniform _
+          tells-raise f b _ (isTyped g && isUniformArray (kindsIn xs)) NotUniform _
           (tells-got f _ (Adds c (nodeFlawed k)) (array (map (λ x. x .1) xs)) r (rw (e, i .0) (items-flawed k g c xs (i .1) (i .2) (i .3))))
       tells-contents k c d (fieldsIn g s) i =
           tells-bind f d (Adds d (any (fieldFlawed g))) _ (fill (p g) (length s) s) (asObject g)
           (tells-fill f (fieldFlawed g) (p g) (met g) (length s) d s) λ xs r b e.
-          tells-raise f b _ (isTyped g && isUniform (kindsIn xs)) notUniform _
-          (tells-raise f _ _ (twins (namesIn xs)) twin _
+          tells-raise f b _ (isTyped g && isUniform (kindsIn xs)) NotUniform _
+          (tells-raise f _ _ (twins (namesIn xs)) Twin _
           (tells-got f _ (Adds c (nodeFlawed k)) (object xs) r (rw (e, i .0) (fields-flawed k g c xs (i .1) (i .2) (i .3)))))
 
       tells-node : (k : Kind) (c : Bool) (s : List ℕ) → Tells f c (Adds c (nodeFlawed k)) (readNode p k s)
@@ -108,16 +110,16 @@ mask-of-shown s i modes = mask-case boundsOnly s (bounds-if-tree s _ (i .its-tre
 
 -- each flaw but `long` was met exactly if the layout has it
 pub flaws-of-read : (d : ℕ) (s : List ℕ) (x : Named (Standing (Layout d))) (fs : List Flaw) (r : List ℕ) → read d Top s ≡ got x fs r → (f : Flaw)
-    → has f fs ≡ shownFlaw d (x .1) (has long fs) f
-flaws-of-read d s x fs r e twin = met-is-flawed twin refl d s x fs r e
-flaws-of-read d s x fs r e blank = met-is-flawed blank refl d s x fs r e
-flaws-of-read d s x fs r e long = refl
-flaws-of-read d s x fs r e low = met-is-flawed low refl d s x fs r e
-flaws-of-read d s x fs r e wide = met-is-flawed wide refl d s x fs r e
-flaws-of-read d s x fs r e notText = met-is-flawed notText refl d s x fs r e
-flaws-of-read d s x fs r e notUniform = met-is-flawed notUniform refl d s x fs r e
+    → has f fs ≡ shownFlaw d (x .1) (has Long fs) f
+flaws-of-read d s x fs r e Twin = met-is-flawed Twin refl d s x fs r e
+flaws-of-read d s x fs r e Blank = met-is-flawed Blank refl d s x fs r e
+flaws-of-read d s x fs r e Long = refl
+flaws-of-read d s x fs r e Low = met-is-flawed Low refl d s x fs r e
+flaws-of-read d s x fs r e Wide = met-is-flawed Wide refl d s x fs r e
+flaws-of-read d s x fs r e NotUtf8 = met-is-flawed NotUtf8 refl d s x fs r e
+flaws-of-read d s x fs r e NotUniform = met-is-flawed NotUniform refl d s x fs r e
 
-pub flaws-are : (s : List ℕ) (i : ShownPayload s) (f : Flaw) → has f (i .flaws) ≡ shownFlaw depthLimit (i .kind, i .layout) (has long (i .flaws)) f
+pub flaws-are : (s : List ℕ) (i : ShownPayload s) (f : Flaw) → has f (i .flaws) ≡ shownFlaw depthLimit (i .kind, i .layout) (has Long (i .flaws)) f
 flaws-are s i f = flaws-of-read depthLimit s _ _ _ (i .was-read) f
 
 pub sum-where : (modes : ℕ) (met : List Flaw) (so : Flaw → Bool) → ((f : Flaw) → has f met ≡ so f) → (fs : List Flaw) → sumOf modes met fs ≡ sumWhere modes so fs
@@ -126,5 +128,5 @@ sum-where modes met so h (f ∷ fs) = rw (h f, sum-where modes met so h fs)
 
 -- so the mask of a payload that was read is told by its layout, by what is left, and by whether a VarUInt is not minimal
 pub mask-of-layout : (s : List ℕ) (i : ShownPayload s) (modes : ℕ)
-    → mask modes s ≡ sumWhere modes (shownFlaw depthLimit (i .kind, i .layout) (has long (i .flaws))) flaws + paddingOf modes (i .left)
+    → mask modes s ≡ sumWhere modes (shownFlaw depthLimit (i .kind, i .layout) (has Long (i .flaws))) flaws + paddingOf modes (i .left)
 mask-of-layout s i modes = mask-of-shown s i modes ∙ ap (λ n. n + paddingOf modes (i .left)) (sum-where modes (i .flaws) _ (flaws-are s i) flaws)

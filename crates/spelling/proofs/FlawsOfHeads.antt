@@ -22,7 +22,9 @@ use Rattle.format.specs.declared.Form.{Form}
 use Rattle.format.specs.declared.Form.the-variants.{Top, Field, Item, SharedField, SharedItem}
 use Rattle.format.specs.declared.Stop.the-variants.{Early, BadUniform}
 use Rattle.format.specs.Kinds.{kindAt, same, isBare}
-use Rattle.format.specs.Parse.{Flaw, blank, long, low, wide, notText, Out, got, bind, make, number, readVarUInt, fixed, sized, rest}
+use Rattle.format.specs.declared.Flaw.{Flaw}
+use Rattle.format.specs.declared.Flaw.the-variants.{Blank, Long, Low, Wide, NotUtf8}
+use Rattle.format.specs.Parse.{Out, got, bind, make, number, readVarUInt, fixed, sized, rest}
 use Rattle.format.specs.Names.{isEmpty, readText, readName}
 use Rattle.format.specs.Tree.{Leaf, null, bool, integer, float, binary, string, objectAttachment, binaryAttachment, hash, uuid, objectId, customById, customByName, atom}
 use Rattle.format.specs.Payload.{payload, kindFound, readType, float64, readNegative, readFloat64, readCustomById, readCustomByName, Head, value, fieldsIn, itemsIn, sharedFieldsOf, readSharedFields, sharedItemsOf, readSharedItems, readFields, readItems, front, head}
@@ -49,14 +51,14 @@ HeadTells f k c (value v) b = b ≡ (c || flawedPart f k (atom v))
 HeadTells f k c (fieldsIn g s) b = (b ≡ c) × (isNamed g ≡ true) × (isTyped g ≡ same k Object) × (same k Array ≡ false)
 HeadTells f k c (itemsIn g n s) b = (b ≡ c) × (isNamed g ≡ false) × (isTyped g ≡ same k Array) × (same k Object ≡ false)
 
-module _ (f : Flaw) (shows : is f long ≡ false) where
+module _ (f : Flaw) (shows : is f Long ≡ false) where
   tells-number : (c : Bool) (s : List ℕ) → Tells f c (Keeps c) (readVarUInt s)
   unfolding readVarUInt
   tells-number c s = go (varUInt s)
     where
       go : (o : VarUInt) → Tells f c (Keeps c) (number o s)
       go Cut = record { says = tt }
-      go (Whole v n m) = tells-raise f c (Keeps c) (not m) long _ (tells-got f (c || (is f long && not m)) (Keeps c) v (drop n s) (rw (shows, or-false c)))
+      go (Whole v n m) = tells-raise f c (Keeps c) (not m) Long _ (tells-got f (c || (is f Long && not m)) (Keeps c) v (drop n s) (rw (shows, or-false c)))
 
   tells-sized : {A : Type 0} (c : Bool) (P : A → Bool → Type 0) (p : List ℕ → Out A) → ((b : List ℕ) → Tells f c P (p b)) → (s : List ℕ) → Tells f c P (sized p s)
   tells-sized c P p h s = tells-bind f c (Keeps c) P (readVarUInt s) _ (tells-number c s) λ n r b e.
@@ -65,15 +67,15 @@ module _ (f : Flaw) (shows : is f long ≡ false) where
   tells-rest : (c : Bool) (s : List ℕ) → Tells f c (Keeps c) (rest s)
   tells-rest c s = tells-got f c (Keeps c) s [] refl
 
-  tells-text : (c : Bool) (s : List ℕ) → Tells f c (Adds c (λ t. is f notText && not (isText t))) (readText s)
+  tells-text : (c : Bool) (s : List ℕ) → Tells f c (Adds c (λ t. is f NotUtf8 && not (isText t))) (readText s)
   tells-text c s = tells-bind f c (Keeps c) _ (sized rest s) _ (tells-sized c (Keeps c) rest (tells-rest c) s) λ t r b e.
-      tells-raise f b _ (not (isText t)) notText _
-      (tells-got f _ (Adds c (λ t. is f notText && not (isText t))) t r (ap (λ z. z || (is f notText && not (isText t))) e))
+      tells-raise f b _ (not (isText t)) NotUtf8 _
+      (tells-got f _ (Adds c (λ t. is f NotUtf8 && not (isText t))) t r (ap (λ z. z || (is f NotUtf8 && not (isText t))) e))
 
   tells-name : (c : Bool) (s : List ℕ) → Tells f c (Adds c (nameFlawed f)) (readName s)
-  tells-name c s = tells-bind f c (Adds c (λ t. is f notText && not (isText t))) _ (readText s) _ (tells-text c s) λ n r b e.
-      tells-raise f b _ (isEmpty n) blank _ (tells-got f _ (Adds c (nameFlawed f)) n r
-      (ap (λ z. z || (is f blank && isEmpty n)) e ∙ or-assoc c (is f notText && not (isText n)) (is f blank && isEmpty n)))
+  tells-name c s = tells-bind f c (Adds c (λ t. is f NotUtf8 && not (isText t))) _ (readText s) _ (tells-text c s) λ n r b e.
+      tells-raise f b _ (isEmpty n) Blank _ (tells-got f _ (Adds c (nameFlawed f)) n r
+      (ap (λ z. z || (is f Blank && isEmpty n)) e ∙ or-assoc c (is f NotUtf8 && not (isText n)) (is f Blank && isEmpty n)))
 
   tells-type : (c : Bool) (m : Mark) (s : List ℕ) → Tells f c (Keeps c) (readType m s)
   tells-type c m [] = record { says = tt }
@@ -125,17 +127,17 @@ module _ (f : Flaw) (shows : is f long ≡ false) where
   negative-tells : (c : Bool) (s : List ℕ) → Tells f c (HeadTells f IntegerNegative c) (make value (readNegative s))
   negative-tells c s =
       tells-make f c (HeadTells f IntegerNegative c) value (readNegative s) (tells-bind f c (Keeps c) _ (readVarUInt s) _ (tells-number c s) λ m r b e.
-      tells-raise f b _ (not (ltb m (2 ^ 63))) low _
+      tells-raise f b _ (not (ltb m (2 ^ 63))) Low _
       (tells-got f _ (λ v b. HeadTells f IntegerNegative c (value v) b) (integer (negsuc m)) r (rw (leaf-low f m, e))))
 
   float64-tells : (c : Bool) (s : List ℕ) → Tells f c (HeadTells f Float64 c) (make value (readFloat64 s))
   float64-tells c s = tells-make f c (HeadTells f Float64 c) value (readFloat64 s) (tells-bind f c (Keeps c) _ (fixed 8 s) _ (tells-fixed f c 8 s) λ x r b e.
-      tells-raise f b _ (holds (fromBytes x)) wide _
+      tells-raise f b _ (holds (fromBytes x)) Wide _
       (tells-got f _ (λ v b. HeadTells f Float64 c (value v) b) (float (float64 (fromBytes x))) r (rw (leaf-wide f (fromBytes x), e))))
 
   string-tells : (c : Bool) (s : List ℕ) → Tells f c (HeadTells f String c) (make value (make string (readText s)))
   string-tells c s = tells-make f c (HeadTells f String c) value (make string (readText s)) (tells-make f c _ string (readText s)
-      (tells-as f c (Adds c (λ t. is f notText && not (isText t))) _ (readText s) (λ t b e. rw (leaf-text f String (string t) t refl refl refl) e) (tells-text c s)))
+      (tells-as f c (Adds c (λ t. is f NotUtf8 && not (isText t))) _ (readText s) (λ t b e. rw (leaf-text f String (string t) t refl refl refl) e) (tells-text c s)))
 
   by-id-tells : (c : Bool) (s : List ℕ) → Tells f c (HeadTells f CustomById c) (make value (sized readCustomById s))
   by-id-tells c s =
@@ -146,7 +148,7 @@ module _ (f : Flaw) (shows : is f long ≡ false) where
   by-name-tells : (c : Bool) (s : List ℕ) → Tells f c (HeadTells f CustomByName c) (make value (sized readCustomByName s))
   by-name-tells c s =
       tells-make f c (HeadTells f CustomByName c) value (sized readCustomByName s)
-      (tells-sized c _ readCustomByName (λ b. tells-bind f c (Adds c (λ t. is f notText && not (isText t))) _ (readText b) _ (tells-text c b) λ n r d e.
+      (tells-sized c _ readCustomByName (λ b. tells-bind f c (Adds c (λ t. is f NotUtf8 && not (isText t))) _ (readText b) _ (tells-text c b) λ n r d e.
       tells-make f d _ (customByName n) (rest r) (tells-got f d _ r [] (rw (leaf-text f CustomByName (customByName n r) n refl refl refl) e))) s)
 
   shared-fields-tells : (c : Bool) (b : List ℕ) → Tells f c (HeadTells f UniformObject c) (readSharedFields b)

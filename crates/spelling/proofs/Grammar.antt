@@ -12,7 +12,9 @@ use borrow.Author.Tests.{ltb-false, le-ltb}
 use Rattle.number.specs.BigEndian.{Bytes}
 use Rattle.number.proofs.BigEndianLaws.{bytes-take}
 use Rattle.format.specs.declared.Stop.the-variants.{Early}
-use Rattle.format.specs.Parse.{Flaw, long, Out, fault, got, bind, raise, make, whole, readVarUInt, fixed, sized, rest}
+use Rattle.format.specs.declared.Flaw.{Flaw}
+use Rattle.format.specs.declared.Flaw.the-variants.{Long}
+use Rattle.format.specs.Parse.{Out, fault, got, bind, raise, make, whole, readVarUInt, fixed, sized, rest}
 use Rattle.spelling.specs.Spells.{All-of, Exactly, Made, Behind, Sized}
 use Rattle.format.proofs.Back.{never}
 use Rattle.format.proofs.Lists.{append-nil, bytes-left, bytes-right}
@@ -25,7 +27,7 @@ pub record Clean (C : List Flaw → Type 0) : Type 0 where
   pub both : (fs gs : List Flaw) → C fs → C gs → C (fs ++ gs)
   pub left : (fs gs : List Flaw) → C (fs ++ gs) → C fs
   pub right : (fs gs : List Flaw) → C (fs ++ gs) → C gs
-  pub other : (f : Flaw) → is f long ≡ false → C (f ∷ [])
+  pub other : (f : Flaw) → is f Long ≡ false → C (f ∷ [])
 
 -- a reader from the front reads just what S spells; a reader of a part uses it up
 pub record Front {A : Type 0} (C : List Flaw → Type 0) (p : List ℕ → Out A) (S : A → List ℕ → Type 0) : Type 0 where
@@ -98,7 +100,7 @@ module _ {C : List Flaw → Type 0} (clean : Clean C) where
   }
 
   -- a flaw other than `long` changes nothing
-  pub front-flag : {A B : Type 0} (g : A → B) (t : A → Bool) (f : Flaw) → is f long ≡ false → (p : List ℕ → Out A) (S : A → List ℕ → Type 0) → Front C p S
+  pub front-flag : {A B : Type 0} (g : A → B) (t : A → Bool) (f : Flaw) → is f Long ≡ false → (p : List ℕ → Out A) (S : A → List ℕ → Type 0) → Front C p S
       → Front C (λ s. bind (p s) λ a r. raise (t a) f (got (g a) [] r)) (Made g S)
   front-flag g t f n p S h = front-as _ (Behind S (λ a b w. (b ≡ g a) × (w ≡ []))) (Made g S)
       (λ b w y x. (x .0, x .5 .0, subst (S (x .0)) (sym (x .3 ∙ (ap (λ z. x .1 ++ z) (x .5 .1) ∙ append-nil (x .1)))) (x .4)))
@@ -160,7 +162,7 @@ module _ {C : List Flaw → Type 0} (clean : Clean C) where
           (u, take n q, refl, subst (λ z. Num z u) (sym (length-take-le n q (ltb-false (length q) n l))) v, h .to (take n q) a gs (bytes-take n q y) i c),
         )
 
-  pub raise-from : {A : Type 0} (x : Bool) (f : Flaw) → is f long ≡ false → (o : Out A) (a : A) (r : List ℕ) → (gs : List Flaw) × C gs × (o ≡ got a gs r)
+  pub raise-from : {A : Type 0} (x : Bool) (f : Flaw) → is f Long ≡ false → (o : Out A) (a : A) (r : List ℕ) → (gs : List Flaw) × C gs × (o ≡ got a gs r)
       → (fs : List Flaw) × C fs × (raise x f o ≡ got a fs r)
   raise-from false f n o a r i = i
   raise-from true f n o a r i = (f ∷ i .0, clean .both (f ∷ []) (i .0) (clean .other f n) (i .1), rw (i .2))

@@ -8,7 +8,9 @@ use lib.ListN.{length}
 use Rattle.number.specs.BigEndian.{Bytes}
 use Rattle.format.specs.declared.Form.{Form}
 use Rattle.format.specs.Kinds.{isUniform, isUniformArray}
-use Rattle.format.specs.Parse.{Flaw, twin, notUniform, Out, got, bind, raise, make, whole, readVarUInt, sized, many, fill}
+use Rattle.format.specs.declared.Flaw.{Flaw}
+use Rattle.format.specs.declared.Flaw.the-variants.{Twin, NotUniform}
+use Rattle.format.specs.Parse.{Out, got, bind, raise, make, whole, readVarUInt, sized, many, fill}
 use Rattle.format.specs.Names.{twins}
 use Rattle.format.specs.Tree.{Leaf, Node, atom, array, object}
 use Rattle.format.specs.Payload.{Head, value, fieldsIn, itemsIn}
@@ -69,7 +71,7 @@ module _ {C : List Flaw → Type 0} (clean : Clean C) {Num : ℕ → List ℕ �
   module _ (S : Form → Named (Standing X) → List ℕ → Type 0) (good : (g : Form) → Front C (p g) (S g)) where
     pub items-part : (g : Form) (n : ℕ) → Part C (λ b. contents p (itemsIn g n b)) (ItemsSpell Num S g n)
     items-part g n = record {
-      to = λ b t fs y e c. bind-got (many (p g) n b) (asArray g) e λ xs es q gs i j ef. raise-got (isTyped g && isUniformArray (kindsIn xs)) notUniform
+      to = λ b t fs y e c. bind-got (many (p g) n b) (asArray g) e λ xs es q gs i j ef. raise-got (isTyped g && isUniformArray (kindsIn xs)) NotUniform
           (got (array (map (λ x. x .1) xs)) [] q) j λ hs k.
           let m = front-many clean (p g) (S g) (good g) n .to b xs es q y i (clean .left es gs (subst C ef c)) in
           let z : q ≡ [] = cc in
@@ -78,21 +80,21 @@ module _ {C : List Flaw → Type 0} (clean : Clean C) {Num : ℕ → List ℕ �
           let m = front-many clean (p g) (S g) (good g) n .from (x .0) b (x .2, x .3) [] in
           let e : many (p g) n b ≡ got (x .0) (m .0) [] = subst (λ b. many (p g) n b ≡ got (x .0) (m .0) []) (append-nil b) (m .2) in
           let o =
-          raise-from clean (isTyped g && isUniformArray (kindsIn (x .0))) notUniform refl (got (array (map (λ x. x .1) (x .0))) [] [])
+          raise-from clean (isTyped g && isUniformArray (kindsIn (x .0))) NotUniform refl (got (array (map (λ x. x .1) (x .0))) [] [])
           (array (map (λ x. x .1) (x .0))) [] ([], clean .none, refl) in
           put clean (many (p g) n b) (asArray g) (x .0) (array (map (λ x. x .1) (x .0))) t (m .0) (m .1) (o .0) (o .1) e (o .2) (x .1);
     }
 
     pub fields-part : (g : Form) → ((x : Named (Standing X)) (w : List ℕ) → S g x w → 1 ≤ length w) → Part C (λ b. contents p (fieldsIn g b)) (FieldsSpell Num S g)
     fields-part g some = record {
-      to = λ b t fs y e c. bind-got (fill (p g) (length b) b) (asObject g) e λ xs es q gs i j ef. raise-got (isTyped g && isUniform (kindsIn xs)) notUniform
-          (raise (twins (namesIn xs)) twin (got (object xs) [] q)) j λ hs k. raise-got (twins (namesIn xs)) twin (got (object xs) [] q) k λ hs′ k′.
+      to = λ b t fs y e c. bind-got (fill (p g) (length b) b) (asObject g) e λ xs es q gs i j ef. raise-got (isTyped g && isUniform (kindsIn xs)) NotUniform
+          (raise (twins (namesIn xs)) Twin (got (object xs) [] q)) j λ hs k. raise-got (twins (namesIn xs)) Twin (got (object xs) [] q) k λ hs′ k′.
           let m = fill-to clean (p g) (S g) (good g) (length b) b xs es q y i (clean .left es gs (subst C ef c)) in
           (xs, cc, m .1);
       from = λ t b x.
           let m = fill-from clean (p g) (S g) (good g) some (length b) (x .0) b (x .2) (omega arith) in
           let o =
-          raise-from clean (isTyped g && isUniform (kindsIn (x .0))) notUniform refl (raise (twins (namesIn (x .0))) twin (got (object (x .0)) [] []))
-          (object (x .0)) [] (raise-from clean (twins (namesIn (x .0))) twin refl (got (object (x .0)) [] []) (object (x .0)) [] ([], clean .none, refl)) in
+          raise-from clean (isTyped g && isUniform (kindsIn (x .0))) NotUniform refl (raise (twins (namesIn (x .0))) Twin (got (object (x .0)) [] []))
+          (object (x .0)) [] (raise-from clean (twins (namesIn (x .0))) Twin refl (got (object (x .0)) [] []) (object (x .0)) [] ([], clean .none, refl)) in
           put clean (fill (p g) (length b) b) (asObject g) (x .0) (object (x .0)) t (m .0) (m .1) (o .0) (o .1) (m .2) (o .2) (x .1);
     }

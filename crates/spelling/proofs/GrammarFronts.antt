@@ -13,7 +13,9 @@ use Rattle.format.specs.declared.Mark.the-variants.{OfTop, OfField, OfItem}
 use Rattle.format.specs.declared.Form.{Form}
 use Rattle.format.specs.declared.Form.the-variants.{Top, Field, Item, SharedField, SharedItem}
 use Rattle.format.specs.Kinds.{typeByte, kindAt}
-use Rattle.format.specs.Parse.{Flaw, blank, notText, got, make, readVarUInt, sized, rest}
+use Rattle.format.specs.declared.Flaw.{Flaw}
+use Rattle.format.specs.declared.Flaw.the-variants.{Blank, NotUtf8}
+use Rattle.format.specs.Parse.{got, make, readVarUInt, sized, rest}
 use Rattle.format.specs.Names.{isEmpty, readText, readName}
 use Rattle.format.specs.Payload.{kindFound, readType, front}
 use Rattle.spelling.specs.Spells.{All-of, Made, Behind, Sized, FrontSpells}
@@ -38,13 +40,13 @@ module _ {C : List Flaw → Type 0} (clean : Clean C) where
     front-text =
         front-as clean readText (Made (λ t. t) (Sized Num All-of)) (Sized Num All-of) (λ a w y x. subst (λ a. Sized Num All-of a w) (sym (x .1)) (x .2))
         (λ a w x. (a, refl, x))
-        (front-flag clean (λ t. t) (λ t. not (isText t)) notText refl (sized rest) (Sized Num All-of) (front-sized clean num rest All-of (part-rest clean)))
+        (front-flag clean (λ t. t) (λ t. not (isText t)) NotUtf8 refl (sized rest) (Sized Num All-of) (front-sized clean num rest All-of (part-rest clean)))
 
     pub front-name : Front C readName (Sized Num All-of)
     front-name =
         front-as clean readName (Made (λ t. t) (Sized Num All-of)) (Sized Num All-of) (λ a w y x. subst (λ a. Sized Num All-of a w) (sym (x .1)) (x .2))
         (λ a w x. (a, refl, x))
-        (front-flag clean (λ t. t) isEmpty blank refl readText (Sized Num All-of) front-text)
+        (front-flag clean (λ t. t) isEmpty Blank refl readText (Sized Num All-of) front-text)
 
     pub front-front : (g : Form) → Front C (front g) (FrontSpells Num g)
     unfolding front

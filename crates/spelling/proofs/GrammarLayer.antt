@@ -19,7 +19,9 @@ use Rattle.format.specs.declared.Form.{Form}
 use Rattle.format.specs.declared.Form.the-variants.{Field, Item, SharedField, SharedItem}
 use Rattle.format.specs.declared.Stop.the-variants.{BadUniform}
 use Rattle.format.specs.Kinds.{typeByte, kindAt, isBare}
-use Rattle.format.specs.Parse.{Flaw, low, wide, Out, fault, got, bind, make, whole, readVarUInt, fixed, sized, rest}
+use Rattle.format.specs.declared.Flaw.{Flaw}
+use Rattle.format.specs.declared.Flaw.the-variants.{Low, Wide}
+use Rattle.format.specs.Parse.{Out, fault, got, bind, make, whole, readVarUInt, fixed, sized, rest}
 use Rattle.format.specs.Names.{readText}
 use Rattle.format.specs.Tree.{Leaf, null, bool, integer, float, binary, string, objectAttachment, binaryAttachment, hash, uuid, objectId, dateTime, timeSpan, customById, customByName, Node, atom}
 use Rattle.format.specs.Payload.{value, payload, float32, float64, readNegative, readFloat64, readCustomById, readCustomByName, Head, fieldsIn, itemsIn, sharedFieldsOf, readSharedFields, sharedItemsOf, readSharedItems, readFields, readItems, front, head}
@@ -184,10 +186,10 @@ module _ {C : List Flaw → Type 0} (clean : Clean C) {Num : ℕ → List ℕ �
       | IntegerPositive ↦ made-leaf (λ m. integer (pos m)) (λ s. make (λ m. integer (pos m)) (readVarUInt s)) Num
           (front-make clean (λ m. integer (pos m)) readVarUInt Num num)
       | IntegerNegative ↦ made-leaf (λ m. integer (negsuc m)) readNegative Num
-          (front-flag clean (λ m. integer (negsuc m)) (λ m. not (ltb m (2 ^ 63))) low refl readVarUInt Num num)
+          (front-flag clean (λ m. integer (negsuc m)) (λ m. not (ltb m (2 ^ 63))) Low refl readVarUInt Num num)
       | Float32 ↦ fixed-leaf 4 (λ b. float (float32 (fromBytes b)))
       | Float64 ↦ made-leaf (λ b. float (float64 (fromBytes b))) readFloat64 (Exactly 8)
-          (front-flag clean (λ b. float (float64 (fromBytes b))) (λ b. holds (fromBytes b)) wide refl (fixed 8) _ (front-fixed clean 8))
+          (front-flag clean (λ b. float (float64 (fromBytes b))) (λ b. holds (fromBytes b)) Wide refl (fixed 8) _ (front-fixed clean 8))
       | False ↦ bare-leaf (bool false)
       | True ↦ bare-leaf (bool true)
       | ObjectAttachment ↦ fixed-leaf 20 objectAttachment

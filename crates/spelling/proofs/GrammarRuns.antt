@@ -5,7 +5,8 @@ use mathlib.Core.Path.{_≡_, refl, sym, ap, subst, _∙_}
 use mathlib.Core.List.{List, [], _∷_, _++_}
 use lib.ListN.{length, length-append}
 use Rattle.number.specs.BigEndian.{Bytes}
-use Rattle.format.specs.Parse.{Flaw, Out, got, bind, make, many, fill}
+use Rattle.format.specs.declared.Flaw.{Flaw}
+use Rattle.format.specs.Parse.{Out, got, bind, make, many, fill}
 use Rattle.spelling.specs.Spells.{Made, Behind, Run}
 use Rattle.format.proofs.Back.{never}
 use Rattle.format.proofs.Lists.{bytes-right}

@@ -13,7 +13,9 @@ use Rattle.format.specs.declared.Form.the-variants.{Top}
 use Rattle.format.specs.declared.Stop.{Stop}
 use Rattle.format.specs.declared.Stop.the-variants.{Early, Unknown, TooDeep, TooLong, BadUniform}
 use Rattle.format.specs.Limits.{depthLimit, lengthLimit}
-use Rattle.format.specs.Parse.{Flaw, twin, blank, long, low, wide, notText, notUniform, Out, fault, got}
+use Rattle.format.specs.declared.Flaw.{Flaw}
+use Rattle.format.specs.declared.Flaw.the-variants.{Twin, Blank, Long, Low, Wide, NotUtf8, NotUniform}
+use Rattle.format.specs.Parse.{Out, fault, got}
 use Rattle.format.specs.Reader.{Standing, Named, Layout, read}
 use Rattle.format.specs.Mask.{stopValue, flaws, counts, isAsked, paddingMode, sumOf, paddingOf, maskOf, mask, boundsOnly}
 use Rattle.spelling.specs.Spells.{anyForm, Spells}
@@ -59,13 +61,13 @@ once false v = (0, omega arith, omega arith)
 
 sum-is : (modes : ℕ) (met : List Flaw) → (n : ℕ) × (sumOf modes met flaws ≡ 16 * n) × (n < 128)
 sum-is modes met =
-    let a = once (counts modes met twin) 16 in
-    let b = once (counts modes met blank) 32 in
-    let c = once (counts modes met long) 64 in
-    let d = once (counts modes met low) 128 in
-    let e = once (counts modes met wide) 256 in
-    let f = once (counts modes met notText) 512 in
-    let g = once (counts modes met notUniform) 1024 in (
+    let a = once (counts modes met Twin) 16 in
+    let b = once (counts modes met Blank) 32 in
+    let c = once (counts modes met Long) 64 in
+    let d = once (counts modes met Low) 128 in
+    let e = once (counts modes met Wide) 256 in
+    let f = once (counts modes met NotUtf8) 512 in
+    let g = once (counts modes met NotUniform) 1024 in (
       a .0 + 2 * b .0 + 4 * c .0 + 8 * d .0 + 16 * e .0 + 32 * f .0 + 64 * g .0,
       omega (arith, a .2, b .2, c .2, d .2, e .2, f .2, g .2),
       omega

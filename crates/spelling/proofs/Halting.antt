@@ -13,7 +13,8 @@ use Rattle.number.specs.BigEndian.{Bytes}
 use Rattle.number.proofs.BigEndianLaws.{bytes-take}
 use Rattle.format.specs.declared.Stop.{Stop}
 use Rattle.format.specs.declared.Stop.the-variants.{Early}
-use Rattle.format.specs.Parse.{Flaw, Out, fault, got, withFlaws, bind, raise, make, whole, readVarUInt, fixed, sized}
+use Rattle.format.specs.declared.Flaw.{Flaw}
+use Rattle.format.specs.Parse.{Out, fault, got, withFlaws, bind, raise, make, whole, readVarUInt, fixed, sized}
 use Rattle.spelling.specs.Spells.{anyForm}
 use Rattle.spelling.specs.Halts.{OrBehind, SizeCut, NumberHalts, BytesHalt, SizedHalts}
 use Rattle.format.proofs.Back.{never}

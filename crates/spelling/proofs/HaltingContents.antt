@@ -11,7 +11,9 @@ use Rattle.format.specs.declared.Form.{Form}
 use Rattle.format.specs.declared.Stop.{Stop}
 use Rattle.format.specs.declared.Stop.the-variants as T
 use Rattle.format.specs.Kinds.{isUniform, isUniformArray}
-use Rattle.format.specs.Parse.{Flaw, twin, notUniform, Out, fault, got, bind, raise, whole, sized, many, fill}
+use Rattle.format.specs.declared.Flaw.{Flaw}
+use Rattle.format.specs.declared.Flaw.the-variants.{Twin, NotUniform}
+use Rattle.format.specs.Parse.{Out, fault, got, bind, raise, whole, sized, many, fill}
 use Rattle.format.specs.Names.{twins}
 use Rattle.format.specs.Tree.{Node, array, object}
 use Rattle.format.specs.Payload.{Head, fieldsIn, itemsIn}
@@ -99,13 +101,13 @@ module _ {X : Type 0} (p : Reader X) where
     }
       where
         object-never : (xs : List (Named (Standing X))) (r : List ℕ) (k : Stop) → asObject g xs r ≡ fault k → ⊥
-        object-never xs r k e = raise-never (twins (namesIn xs)) twin (object xs) r (raise-fault (isTyped g && isUniform (kindsIn xs)) notUniform _ e)
+        object-never xs r k e = raise-never (twins (namesIn xs)) Twin (object xs) r (raise-fault (isTyped g && isUniform (kindsIn xs)) NotUniform _ e)
 
         left-never : (xs : List (Named (Standing X))) (es : List Flaw) (q b : List ℕ) → Bytes b → fill (p g) (length b) b ≡ got xs es q
             → (a : Node (Standing X)) (gs : List Flaw) (c : ℕ) (r : List ℕ) → asObject g xs q ≡ got a gs (c ∷ r) → ⊥
         left-never xs es q b y i a gs c r j =
-            raise-got (isTyped g && isUniform (kindsIn xs)) notUniform (raise (twins (namesIn xs)) twin (got (object xs) [] q)) j λ hs k. raise-got
-            (twins (namesIn xs)) twin (got (object xs) [] q) k λ hs′ k′.
+            raise-got (isTyped g && isUniform (kindsIn xs)) NotUniform (raise (twins (namesIn xs)) Twin (got (object xs) [] q)) j λ hs k. raise-got
+            (twins (namesIn xs)) Twin (got (object xs) [] q) k λ hs′ k′.
             let m = fill-to any-clean (p g) (S g) (good g) (length b) b xs es q y i tt in
             let z : c ∷ r ≡ [] = cc (m .0) in
             let z′ : _≡_ {A = ℕ} 0 1 = cc in omega arith
@@ -117,8 +119,8 @@ module _ {X : Type 0} (p : Reader X) where
         to b k y e = whole-fault (bind (many (p g) n b) (asArray g)) [] e
             (λ i. bind-fault (many (p g) n b) (asArray g) i
             (λ j. let m = many-halts (p g) (S g) (H g) (good g) (halts g) n b k y j in (m .0, m .1, m .2, m .3, m .4, inl (m .5, m .6)))
-            (λ xs fs r _ j. raise-never (isTyped g && isUniformArray (kindsIn xs)) notUniform (array (map (λ x. x .1) xs)) r j))
-            (λ a fs c r i l. bind-got (many (p g) n b) (asArray g) i λ xs es q gs i′ j′ _. raise-got (isTyped g && isUniformArray (kindsIn xs)) notUniform
+            (λ xs fs r _ j. raise-never (isTyped g && isUniformArray (kindsIn xs)) NotUniform (array (map (λ x. x .1) xs)) r j))
+            (λ a fs c r i l. bind-got (many (p g) n b) (asArray g) i λ xs es q gs i′ j′ _. raise-got (isTyped g && isUniformArray (kindsIn xs)) NotUniform
             (got (array (map (λ x. x .1) xs)) [] q) j′ λ hs o.
             let m = front-many any-clean (p g) (S g) (good g) n .to b xs es q y i′ tt in
             let z : q ≡ c ∷ r = cc in
@@ -129,7 +131,7 @@ module _ {X : Type 0} (p : Reader X) where
         left xs b u t e r l m =
             let w = front-many any-clean (p g) (S g) (good g) n .from xs u (l, r) t in
             let o =
-            raise-from any-clean (isTyped g && isUniformArray (kindsIn xs)) notUniform refl (got (array (map (λ x. x .1) xs)) [] t)
+            raise-from any-clean (isTyped g && isUniformArray (kindsIn xs)) NotUniform refl (got (array (map (λ x. x .1) xs)) [] t)
             (array (map (λ x. x .1) xs)) t ([], tt, refl) in
             whole-left (contents p (itemsIn g n b)) (array (map (λ x. x .1) xs)) (w .0 ++ o .0) t []
             (rw (e, w .2, o .2) (with-put (w .0) (o .0) (array (map (λ x. x .1) xs)) t)) m

@@ -17,7 +17,9 @@ use Rattle.format.specs.declared.Form.the-variants.{Top, Field, Item, SharedFie
 use Rattle.format.specs.declared.Stop.{Stop}
 use Rattle.format.specs.declared.Stop.the-variants as T
 use Rattle.format.specs.Kinds.{typeByte, kindAt}
-use Rattle.format.specs.Parse.{Flaw, blank, notText, Out, fault, got, bind, make, whole, sized, rest}
+use Rattle.format.specs.declared.Flaw.{Flaw}
+use Rattle.format.specs.declared.Flaw.the-variants.{Blank, NotUtf8}
+use Rattle.format.specs.Parse.{Out, fault, got, bind, make, whole, sized, rest}
 use Rattle.format.specs.Names.{isEmpty, readText, readName}
 use Rattle.format.specs.Tree.{Leaf, atom}
 use Rattle.format.specs.Payload.{kindFound, readType, Head, value, front}
@@ -66,10 +68,10 @@ halt-bytes =
     out k s y (inr i) = absurd (i .5)
 
 pub halt-text : Halt readText TextHalts
-halt-text = halt-flag (λ t. t) (λ t. not (isText t)) notText (sized rest) TextHalts halt-bytes
+halt-text = halt-flag (λ t. t) (λ t. not (isText t)) NotUtf8 (sized rest) TextHalts halt-bytes
 
 pub halt-name : Halt readName TextHalts
-halt-name = halt-flag (λ t. t) isEmpty blank readText TextHalts halt-text
+halt-name = halt-flag (λ t. t) isEmpty Blank readText TextHalts halt-text
 
 pub halt-front : (g : Form) → Halt (front g) (FrontHalts g)
 unfolding front

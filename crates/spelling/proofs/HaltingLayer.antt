@@ -21,7 +21,9 @@ use Rattle.format.specs.declared.Form.the-variants.{Field, Item, SharedField, S
 use Rattle.format.specs.declared.Stop.{Stop}
 use Rattle.format.specs.declared.Stop.the-variants as T
 use Rattle.format.specs.Kinds.{typeByte, kindAt, isBare}
-use Rattle.format.specs.Parse.{Flaw, low, wide, Out, fault, got, bind, make, whole, readVarUInt, fixed, sized, rest}
+use Rattle.format.specs.declared.Flaw.{Flaw}
+use Rattle.format.specs.declared.Flaw.the-variants.{Low, Wide}
+use Rattle.format.specs.Parse.{Out, fault, got, bind, make, whole, readVarUInt, fixed, sized, rest}
 use Rattle.format.specs.Names.{readText}
 use Rattle.format.specs.Tree.{Leaf, null, bool, integer, float, binary, string, objectAttachment, binaryAttachment, hash, uuid, objectId, dateTime, timeSpan, customById, customByName}
 use Rattle.format.specs.Payload.{payload, float32, float64, readNegative, readFloat64, readCustomById, readCustomByName, Head, value, itemsIn, sharedFieldsOf, readSharedFields, sharedItemsOf, readSharedItems, readFields, readItems, front, head}
@@ -177,10 +179,10 @@ module _ {X : Type 0} (p : Reader X) where
       | IntegerPositive ↦ halt-leaf p (λ s. make (λ m. integer (pos m)) (readVarUInt s)) NumberHalts
           (halt-make (λ m. integer (pos m)) readVarUInt NumberHalts halt-number)
       | IntegerNegative ↦ halt-leaf p readNegative NumberHalts
-          (halt-flag (λ m. integer (negsuc m)) (λ m. not (ltb m (2 ^ 63))) low readVarUInt NumberHalts halt-number)
+          (halt-flag (λ m. integer (negsuc m)) (λ m. not (ltb m (2 ^ 63))) Low readVarUInt NumberHalts halt-number)
       | Float32 ↦ bytes-halt 4 (λ b. float (float32 (fromBytes b)))
       | Float64 ↦ halt-leaf p readFloat64 (BytesHalt 8)
-          (halt-flag (λ b. float (float64 (fromBytes b))) (λ b. holds (fromBytes b)) wide (fixed 8) (BytesHalt 8) (halt-fixed 8))
+          (halt-flag (λ b. float (float64 (fromBytes b))) (λ b. holds (fromBytes b)) Wide (fixed 8) (BytesHalt 8) (halt-fixed 8))
       | False ↦ halt-leaf p (λ s. got (bool false) [] s) (λ k s. ⊥) (halt-none (λ s. got (bool false) [] s) (λ s k e. never (sym e)))
       | True ↦ halt-leaf p (λ s. got (bool true) [] s) (λ k s. ⊥) (halt-none (λ s. got (bool true) [] s) (λ s k e. never (sym e)))
       | ObjectAttachment ↦ bytes-halt 20 objectAttachment

@@ -15,7 +15,8 @@ use Rattle.number.specs.declared.VarUInt.the-variants.{Cut, Whole}
 use Rattle.number.proofs.VarUIntLaws.{answer-whole, form-reads, form-length, var-form, var-range, var-local}
 use Rattle.format.specs.declared.Stop.{Stop}
 use Rattle.format.specs.declared.Stop.the-variants.{Early}
-use Rattle.format.specs.Parse.{long, Out, fault, got, number, readVarUInt}
+use Rattle.format.specs.declared.Flaw.the-variants.{Long}
+use Rattle.format.specs.Parse.{Out, fault, got, number, readVarUInt}
 use Rattle.spelling.specs.Halts.{NumberCut, NumberHalts}
 use Rattle.format.proofs.Lists.{append-nil}
 use Rattle.spelling.proofs.Halting.{raise-never, Halt}
@@ -74,4 +75,4 @@ halt-number = record { to = λ s k y e. go s k y (varUInt s) refl e; from = λ k
   where
     go : (s : List ℕ) (k : Stop) → Bytes s → (o : VarUInt) → varUInt s ≡ o → number o s ≡ fault k → NumberHalts k s
     go s k y Cut e h = (cc, cut-begins s y e)
-    go s k y (Whole v n m) e h = raise-never (not m) long v (drop n s) h
+    go s k y (Whole v n m) e h = raise-never (not m) Long v (drop n s) h

@@ -6,7 +6,8 @@ use mathlib.Core.List.{List, [], _∷_, _++_, append-assoc}
 use lib.ListN.{length, length-append}
 use Rattle.number.specs.BigEndian.{Bytes}
 use Rattle.format.specs.declared.Stop.{Stop}
-use Rattle.format.specs.Parse.{Flaw, Out, fault, got, bind, many, fill}
+use Rattle.format.specs.declared.Flaw.{Flaw}
+use Rattle.format.specs.Parse.{Out, fault, got, bind, many, fill}
 use Rattle.spelling.specs.Spells.{Run}
 use Rattle.format.proofs.Back.{never}
 use Rattle.format.proofs.Lists.{bytes-right}

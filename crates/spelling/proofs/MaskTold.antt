@@ -11,7 +11,8 @@ use Rattle.number.specs.BigEndian.{Bytes}
 use Rattle.format.specs.declared.Form.the-variants.{Top}
 use Rattle.format.specs.declared.Stop.{Stop}
 use Rattle.format.specs.Limits.{depthLimit, lengthLimit}
-use Rattle.format.specs.Parse.{Flaw, twin, blank, long, low, wide, notText, notUniform}
+use Rattle.format.specs.declared.Flaw.{Flaw}
+use Rattle.format.specs.declared.Flaw.the-variants.{Twin, Blank, Long, Low, Wide, NotUtf8, NotUniform}
 use Rattle.format.specs.Reader.{Standing, Named, Layout}
 use Rattle.format.specs.Mask.{flaws, paddingOf, mask}
 use Rattle.spelling.specs.Flawed.{sumWhere, shownFlaw}
@@ -24,14 +25,14 @@ use Rattle.spelling.proofs.FlawsExactly.{flawed-exactly}
 use Rattle.spelling.proofs.Spelled.{mask-of-spelling}
 use Rattle.spelling.proofs.Halted.{halts-mask, halts-or-spells}
 
-told-exactly : (d : ℕ) (x : Standing (Layout d)) (l : Bool) (f : Flaw) → (f ≡ long → ⊥) → (shownFlaw d x l f ≡ true) ↔ HasFlaw f d x
-told-exactly d x l twin h = flawed-exactly twin d x
-told-exactly d x l blank h = flawed-exactly blank d x
-told-exactly d x l long h = absurd (h refl)
-told-exactly d x l low h = flawed-exactly low d x
-told-exactly d x l wide h = flawed-exactly wide d x
-told-exactly d x l notText h = flawed-exactly notText d x
-told-exactly d x l notUniform h = flawed-exactly notUniform d x
+told-exactly : (d : ℕ) (x : Standing (Layout d)) (l : Bool) (f : Flaw) → (f ≡ Long → ⊥) → (shownFlaw d x l f ≡ true) ↔ HasFlaw f d x
+told-exactly d x l Twin h = flawed-exactly Twin d x
+told-exactly d x l Blank h = flawed-exactly Blank d x
+told-exactly d x l Long h = absurd (h refl)
+told-exactly d x l Low h = flawed-exactly Low d x
+told-exactly d x l Wide h = flawed-exactly Wide d x
+told-exactly d x l NotUtf8 h = flawed-exactly NotUtf8 d x
+told-exactly d x l NotUniform h = flawed-exactly NotUniform d x
 
 -- of a spelling and something after it: the sum of the flaws with a yes
 pub spelling-told : (x : Named (Standing (Layout depthLimit))) (w left : List ℕ) → Bytes (w ++ left) → length (w ++ left) ≤ lengthLimit
@@ -64,21 +65,21 @@ no-once false b P i j = sym (j .1 (i .0 refl))
 no-once true false P i j = i .1 (j .0 refl)
 no-once true true P i j = refl
 
-not-long : (f : Flaw) → is f long ≡ false → f ≡ long → ⊥
-not-long f h e = let z : false ≡ true = sym h ∙ ap (λ g. is g long) e in let z′ : _≡_ {A = ℕ} 0 1 = cc in omega arith
+not-long : (f : Flaw) → is f Long ≡ false → f ≡ Long → ⊥
+not-long f h e = let z : false ≡ true = sym h ∙ ap (λ g. is g Long) e in let z′ : _≡_ {A = ℕ} 0 1 = cc in omega arith
 
 module _ (x : Named (Standing (Layout depthLimit))) (w : List ℕ) (t u : FlawsTold x w) where
-  other-once : (f : Flaw) → is f long ≡ false → t .so f ≡ u .so f
+  other-once : (f : Flaw) → is f Long ≡ false → t .so f ≡ u .so f
   other-once f h = yes-once (t .so f) (u .so f) (HasFlaw f depthLimit (x .1)) (t .others f (not-long f h)) (u .others f (not-long f h))
 
   pub told-once : (f : Flaw) → t .so f ≡ u .so f
-  told-once twin = other-once twin refl
-  told-once blank = other-once blank refl
-  told-once long = no-once (t .so long) (u .so long) (Spells minimalForm depthLimit Top x w) (t .minimal) (u .minimal)
-  told-once low = other-once low refl
-  told-once wide = other-once wide refl
-  told-once notText = other-once notText refl
-  told-once notUniform = other-once notUniform refl
+  told-once Twin = other-once Twin refl
+  told-once Blank = other-once Blank refl
+  told-once Long = no-once (t .so Long) (u .so Long) (Spells minimalForm depthLimit Top x w) (t .minimal) (u .minimal)
+  told-once Low = other-once Low refl
+  told-once Wide = other-once Wide refl
+  told-once NotUtf8 = other-once NotUtf8 refl
+  told-once NotUniform = other-once NotUniform refl
 
 sum-same : (modes : ℕ) (a b : Flaw → Bool) → ((f : Flaw) → a f ≡ b f) → (fs : List Flaw) → sumWhere modes a fs ≡ sumWhere modes b fs
 sum-same modes a b h [] = refl

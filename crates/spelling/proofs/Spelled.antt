@@ -11,7 +11,9 @@ use lib.Seq.{take-at}
 use Rattle.number.specs.BigEndian.{Bytes}
 use Rattle.format.specs.declared.Form.{Form}
 use Rattle.format.specs.declared.Form.the-variants.{Top}
-use Rattle.format.specs.Parse.{Flaw, long, got}
+use Rattle.format.specs.declared.Flaw.{Flaw}
+use Rattle.format.specs.declared.Flaw.the-variants.{Long}
+use Rattle.format.specs.Parse.{got}
 use Rattle.format.specs.Reader.{Standing, Named, Layout, read}
 use Rattle.format.specs.Limits.{depthLimit, lengthLimit}
 use Rattle.format.specs.Mask.{has, flaws, paddingOf, maskOf, mask, boundsOnly}
@@ -49,14 +51,14 @@ bounds-exactly-spellings s y = (
 
 -- no VarUInt that is not minimal was met exactly if the bytes are a spelling of the layout with minimal ones
 pub long-exactly : (s : List ℕ) → Bytes s → (i : ShownPayload s)
-    → (has long (i .flaws) ≡ false) ↔ ((w : List ℕ) × (s ≡ w ++ i .left) × Spells minimalForm depthLimit Top ([], (i .kind, i .layout)) w)
+    → (has Long (i .flaws) ≡ false) ↔ ((w : List ℕ) × (s ≡ w ++ i .left) × Spells minimalForm depthLimit Top ([], (i .kind, i .layout)) w)
 long-exactly s b i = (
   (λ h. read-minimal depthLimit Top .to s _ _ _ b (i .was-read) h),
   (λ x. let y : Named (Standing (Layout depthLimit)) = ([], (i .kind, i .layout)) in
       let j = read-minimal depthLimit Top .from y (x .0) (x .2) (i .left) in
       let e : got y (i .flaws) (i .left) ≡ got y (j .0) (i .left) = sym (i .was-read) ∙ (ap (read depthLimit Top) (x .1) ∙ j .2) in
       let z : j .0 ≡ i .flaws = cc in
-      subst (λ fs. has long fs ≡ false) z (j .1)),
+      subst (λ fs. has Long fs ≡ false) z (j .1)),
 )
 
 -- ---- the mask of every spelling, with no word of the reader
@@ -83,14 +85,14 @@ pub mask-of-spelling : (x : Named (Standing (Layout depthLimit))) (w left : List
     × ((modes : ℕ) → mask modes (w ++ left) ≡ sumWhere modes (shownFlaw depthLimit (x .1) l) flaws + paddingOf modes left)
 mask-of-spelling x w left y k i =
     let a = read-any depthLimit Top .from x w i left in (
-      has long (a .0),
+      has Long (a .0),
       (
         (λ h. let m = read-minimal depthLimit Top .to (w ++ left) x (a .0) left y (a .2) h in subst (λ u. Spells minimalForm depthLimit Top x u)
             (sym (same-front w (m .0) left (m .1))) (m .2)),
         (λ h. let m = read-minimal depthLimit Top .from x w h left in
             let e : got x (a .0) left ≡ got x (m .0) left = sym (a .2) ∙ m .2 in
             let z : m .0 ≡ a .0 = cc in
-            subst (λ fs. has long fs ≡ false) z (m .1)),
+            subst (λ fs. has Long fs ≡ false) z (m .1)),
       ),
       λ modes. rw (mask-short modes (w ++ left) k, a .2)
           (ap (λ n. n + paddingOf modes left) (sum-where modes (a .0) _ (flaws-of-read depthLimit (w ++ left) x (a .0) left (a .2)) flaws)),

@@ -13,7 +13,9 @@ use Rattle.number.specs.VarUInt.{reached, bounds, bound, varUInt, form, encoded
 use Rattle.number.specs.declared.VarUInt.{VarUInt}
 use Rattle.number.specs.declared.VarUInt.the-variants.{Cut, Whole}
 use Rattle.number.proofs.VarUIntLaws.{limit, limit-whole, needed-at, form-reads, form-length, measured, encoded-at, encoded-bytes, var-rt, var-form, var-range, var-local, var-inv}
-use Rattle.format.specs.Parse.{Flaw, twin, blank, long, low, wide, notText, notUniform, got, raise, number, readVarUInt}
+use Rattle.format.specs.declared.Flaw.{Flaw}
+use Rattle.format.specs.declared.Flaw.the-variants.{Twin, Blank, Long, Low, Wide, NotUtf8, NotUniform}
+use Rattle.format.specs.Parse.{got, raise, number, readVarUInt}
 use Rattle.format.specs.Mask.{has}
 use Rattle.spelling.specs.Spells.{anyForm, minimalForm}
 use Rattle.format.proofs.Back.{never, number-rt}
@@ -27,7 +29,7 @@ abbrev pub Any : List Flaw → Type 0
 Any fs = Unit {0}
 
 abbrev pub NoLong : List Flaw → Type 0
-NoLong fs = has long fs ≡ false
+NoLong fs = has Long fs ≡ false
 
 or-left : (a b : Bool) → (a || b) ≡ false → a ≡ false
 or-left true b h = h
@@ -40,45 +42,45 @@ or-right false b h = h
 pub any-clean : Clean Any
 any-clean = record { none = tt; both = λ fs gs a b. tt; left = λ fs gs a. tt; right = λ fs gs a. tt; other = λ f h. tt }
 
-is-comm : (f : Flaw) → is f long ≡ false → is long f ≡ false
-is-comm twin h = refl
-is-comm blank h = refl
-is-comm long h = h
-is-comm low h = refl
-is-comm wide h = refl
-is-comm notText h = refl
-is-comm notUniform h = refl
+is-comm : (f : Flaw) → is f Long ≡ false → is Long f ≡ false
+is-comm Twin h = refl
+is-comm Blank h = refl
+is-comm Long h = h
+is-comm Low h = refl
+is-comm Wide h = refl
+is-comm NotUtf8 h = refl
+is-comm NotUniform h = refl
 
 pub no-long-clean : Clean NoLong
 no-long-clean = record {
   none = refl;
-  both = λ fs gs a b. any-append (is long) fs gs ∙ rw (a, b);
-  left = λ fs gs a. or-left (has long fs) (has long gs) (sym (any-append (is long) fs gs) ∙ a);
-  right = λ fs gs a. or-right (has long fs) (has long gs) (sym (any-append (is long) fs gs) ∙ a);
+  both = λ fs gs a b. any-append (is Long) fs gs ∙ rw (a, b);
+  left = λ fs gs a. or-left (has Long fs) (has Long gs) (sym (any-append (is Long) fs gs) ∙ a);
+  right = λ fs gs a. or-right (has Long fs) (has Long gs) (sym (any-append (is Long) fs gs) ∙ a);
   other = λ f h. rw (is-comm f h);
 }
 
 -- what a VarUInt that stands alone is read as, with anything behind it
-number-from : (w : List ℕ) (v : ℕ) (m : Bool) → varUInt w ≡ Whole v (length w) m → (r : List ℕ) → readVarUInt (w ++ r) ≡ raise (not m) long (got v [] r)
+number-from : (w : List ℕ) (v : ℕ) (m : Bool) → varUInt w ≡ Whole v (length w) m → (r : List ℕ) → readVarUInt (w ++ r) ≡ raise (not m) Long (got v [] r)
 unfolding readVarUInt
 number-from w v m e r =
     let l : varUInt (w ++ r) ≡ Whole v (length w) m = subst (λ u. varUInt (u ++ r) ≡ Whole v (length w) m) (take-length w) (var-local w v (length w) m e r) in
     rw (l, drop-at w r (length w) refl)
 
 number-to : {X : Type 0} (s : List ℕ) (v : ℕ) (fs : List Flaw) (r : List ℕ) → readVarUInt s ≡ got v fs r
-    → ((w : List ℕ) (m : Bool) → s ≡ w ++ r → varUInt w ≡ Whole v (length w) m → raise (not m) long (got v [] r) ≡ got v fs r → X) → X
+    → ((w : List ℕ) (m : Bool) → s ≡ w ++ r → varUInt w ≡ Whole v (length w) m → raise (not m) Long (got v [] r) ≡ got v fs r → X) → X
 unfolding readVarUInt
 number-to {X} s v fs r h k = go (varUInt s) refl h
   where
     go : (o : VarUInt) → varUInt s ≡ o → number o s ≡ got v fs r → X
     go Cut e h = never h
-    go (Whole u n m) e h = raise-got (not m) long (got u [] (drop n s)) h λ gs i.
+    go (Whole u n m) e h = raise-got (not m) Long (got u [] (drop n s)) h λ gs i.
         let y : drop n s ≡ r = cc in
         let x : u ≡ v = cc in
         let l : length (take n s) ≡ n = length-take-le n s (var-range s u n m e .2) in
         let a : varUInt (take n s) ≡ Whole u n m = subst (λ z. varUInt z ≡ Whole u n m) (append-nil (take n s)) (var-local s u n m e []) in
         k (take n s) m (rw (← y) (sym (take-append-drop n s))) (rw (← x, l) a)
-        (subst (λ z. raise (not m) long (got z [] r) ≡ got v fs r) x (subst (λ z. raise (not m) long (got u [] z) ≡ got v fs r) y h))
+        (subst (λ z. raise (not m) Long (got z [] r) ≡ got v fs r) x (subst (λ z. raise (not m) Long (got u [] z) ≡ got v fs r) y h))
 
 -- ---- no shorter form is the encoded one
 
@@ -143,7 +145,7 @@ any-number = record {
   where
     go : (v : ℕ) (w : List ℕ) (m : Bool) → varUInt w ≡ Whole v (length w) m → (r : List ℕ) → (fs : List Flaw) × Any fs × (readVarUInt (w ++ r) ≡ got v fs r)
     go v w true e r = ([], tt, number-from w v true e r)
-    go v w false e r = (long ∷ [], tt, number-from w v false e r)
+    go v w false e r = (Long ∷ [], tt, number-from w v false e r)
 
 encoded-number : Front NoLong readVarUInt Encoded
 encoded-number = record {
@@ -152,7 +154,7 @@ encoded-number = record {
 }
   where
     go : (v : ℕ) (w : List ℕ) (fs : List Flaw) (r : List ℕ) (m : Bool) → Bytes w → varUInt w ≡ Whole v (length w) m
-        → raise (not m) long (got v [] r) ≡ got v fs r → has long fs ≡ false → Encoded v w
+        → raise (not m) Long (got v [] r) ≡ got v fs r → has Long fs ≡ false → Encoded v w
     go v w fs r true y e k c = let i = var-inv w v (length w) y e in (i .0, i .2 ∙ (ap (λ z. encoded v ++ z) (drop-length w) ∙ append-nil (encoded v)))
     go v w fs r false y e k c = absurd (let z : _≡_ {A = ℕ} 0 1 = cc in omega arith)
 

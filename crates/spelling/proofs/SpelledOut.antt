@@ -12,7 +12,8 @@ use Rattle.format.specs.declared.Form.the-variants.{Top}
 use Rattle.format.specs.declared.Stop.{Stop}
 use Rattle.format.specs.declared.Stop.the-variants.{TooLong}
 use Rattle.format.specs.Limits.{depthLimit, lengthLimit}
-use Rattle.format.specs.Parse.{Flaw, long}
+use Rattle.format.specs.declared.Flaw.{Flaw}
+use Rattle.format.specs.declared.Flaw.the-variants.{Long}
 use Rattle.format.specs.Reader.{Standing, Named, Layout}
 use Rattle.format.specs.Mask.{stopValue, flaws, has, sumOf, paddingOf, mask, boundsOnly}
 use Rattle.places.specs.Show.{ShownPayload}
@@ -83,11 +84,11 @@ pub mask-of-shown : (payload : List ℕ) (shown : ShownPayload payload) (modes :
 mask-of-shown = met.mask-of-shown
 
 -- each but 64 was met exactly if some field of the layout shown has what the table says
-pub met-exactly : (payload : List ℕ) (shown : ShownPayload payload) (f : Flaw) → (f ≡ long → ⊥)
+pub met-exactly : (payload : List ℕ) (shown : ShownPayload payload) (f : Flaw) → (f ≡ Long → ⊥)
     → (has f (shown .flaws) ≡ true) ↔ HasFlaw f depthLimit (shown .kind, shown .layout)
 met-exactly = exactly.met-exactly
 
 -- 64 was not met exactly if every VarUInt is in its minimal form
 pub long-exactly : (payload : List ℕ) → Bytes payload → (shown : ShownPayload payload)
-    → (has long (shown .flaws) ≡ false) ↔ ((w : List ℕ) × (payload ≡ w ++ shown .left) × Spells minimalForm depthLimit Top ([], (shown .kind, shown .layout)) w)
+    → (has Long (shown .flaws) ≡ false) ↔ ((w : List ℕ) × (payload ≡ w ++ shown .left) × Spells minimalForm depthLimit Top ([], (shown .kind, shown .layout)) w)
 long-exactly = spelled.long-exactly

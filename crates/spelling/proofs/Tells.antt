@@ -8,7 +8,8 @@ use lib.Dec.{eqb, ltb}
 use Rattle.format.specs.declared.Stop.{Stop}
 use Rattle.format.specs.declared.Stop.the-variants.{Early}
 use Rattle.format.specs.Kinds.{any}
-use Rattle.format.specs.Parse.{Flaw, Out, fault, got, withFlaws, bind, raise, make, whole, fixed, many, fill}
+use Rattle.format.specs.declared.Flaw.{Flaw}
+use Rattle.format.specs.Parse.{Out, fault, got, withFlaws, bind, raise, make, whole, fixed, many, fill}
 use Rattle.format.specs.Mask.{flawValue, has}
 use Rattle.spelling.proofs.AnyLaws.{any-append}
 

@@ -12,7 +12,8 @@ use Rattle.float.specs.Rule.{holds}
 use Rattle.format.specs.declared.Kind.{Kind}
 use Rattle.format.specs.declared.Kind.the-variants as K
 use Rattle.format.specs.declared.Form.the-variants.{Top}
-use Rattle.format.specs.Parse.{Flaw, twin, blank, long, low, wide, notText, notUniform}
+use Rattle.format.specs.declared.Flaw.{Flaw}
+use Rattle.format.specs.declared.Flaw.the-variants.{Twin, Blank, Long, Low, Wide, NotUtf8, NotUniform}
 use Rattle.format.specs.Tree.{Float, Node}
 use Rattle.format.specs.Limits.{depthLimit}
 use Rattle.format.specs.Reader.{Standing, Named, Layout}
@@ -33,13 +34,13 @@ OneId j ks = (js : List Kind) × (ks ≡ j ∷ js) × All (λ l. l ≡ j) js
 
 -- `negsuc m` is minus (m plus 1)
 abbrev pub FlawIn : Flaw → Kind → Node Kind → Type 0
-FlawIn twin k n = Twice (namesOf n)
-FlawIn blank k n = In [] (namesOf n)
-FlawIn long k n = ⊥
-FlawIn low k n = (m : ℕ) × (numberOf n ≡ whole (negsuc m)) × (2 ^ 63 ≤ m)
-FlawIn wide k n = (k ≡ K.Float64) × (x : Float) × (numberOf n ≡ real x) × (holds (floatBits x) ≡ true)
-FlawIn notText k n = (t : List ℕ) × In t (textsOf n) × (isText t ≡ false)
-FlawIn notUniform k n = ((k ≡ K.Object) × (j : Kind) × OneId j (inside n)) ⊎ ((k ≡ K.Array) × (j : Kind) × (Bare j → ⊥) × OneId j (inside n))
+FlawIn Twin k n = Twice (namesOf n)
+FlawIn Blank k n = In [] (namesOf n)
+FlawIn Long k n = ⊥
+FlawIn Low k n = (m : ℕ) × (numberOf n ≡ whole (negsuc m)) × (2 ^ 63 ≤ m)
+FlawIn Wide k n = (k ≡ K.Float64) × (x : Float) × (numberOf n ≡ real x) × (holds (floatBits x) ≡ true)
+FlawIn NotUtf8 k n = (t : List ℕ) × In t (textsOf n) × (isText t ≡ false)
+FlawIn NotUniform k n = ((k ≡ K.Object) × (j : Kind) × OneId j (inside n)) ⊎ ((k ≡ K.Array) × (j : Kind) × (Bare j → ⊥) × OneId j (inside n))
 
 -- some field of the layout has it
 abbrev pub HasFlaw : Flaw → (d : ℕ) → Standing (Layout d) → Type 0
@@ -49,5 +50,5 @@ HasFlaw f d x = (p : Part) × In p (parts d x) × FlawIn f (p .0) (p .1)
 -- has a yes exactly if the layout has it
 pub record FlawsTold (x : Named (Standing (Layout depthLimit))) (w : List ℕ) : Type 0 where
   pub so : Flaw → Bool
-  pub minimal : (so long ≡ false) ↔ Spells minimalForm depthLimit Top x w
-  pub others : (f : Flaw) → (f ≡ long → ⊥) → (so f ≡ true) ↔ HasFlaw f depthLimit (x .1)
+  pub minimal : (so Long ≡ false) ↔ Spells minimalForm depthLimit Top x w
+  pub others : (f : Flaw) → (f ≡ Long → ⊥) → (so f ≡ true) ↔ HasFlaw f depthLimit (x .1)

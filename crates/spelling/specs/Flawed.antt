@@ -10,7 +10,8 @@ use Rattle.float.specs.Rule.{holds}
 use Rattle.format.specs.declared.Kind.{Kind}
 use Rattle.format.specs.declared.Kind.the-variants as K
 use Rattle.format.specs.Kinds.{same, any, isUniform, isUniformArray}
-use Rattle.format.specs.Parse.{Flaw, twin, blank, long, low, wide, notText, notUniform}
+use Rattle.format.specs.declared.Flaw.{Flaw}
+use Rattle.format.specs.declared.Flaw.the-variants.{Twin, Blank, Long, Low, Wide, NotUtf8, NotUniform}
 use Rattle.format.specs.Names.{isEmpty, twins}
 use Rattle.format.specs.Tree.{Leaf, null, bool, integer, float, binary, string, objectAttachment, binaryAttachment, hash, uuid, objectId, dateTime, timeSpan, customById, customByName, Node, atom, array, object, mapNode}
 use Rattle.format.specs.Reader.{Standing, Layout}
@@ -94,13 +95,13 @@ isHeld other = false
 -- ---- the flaws
 
 abbrev pub flawedPart : Flaw → Kind → Node Kind → Bool
-flawedPart twin k n = twins (namesOf n)
-flawedPart blank k n = any isEmpty (namesOf n)
-flawedPart long k n = false
-flawedPart low k n = isLow (numberOf n)
-flawedPart wide k n = same k K.Float64 && isHeld (numberOf n)
-flawedPart notText k n = any (λ t. not (isText t)) (textsOf n)
-flawedPart notUniform k n = (same k K.Object && isUniform (inside n)) || (same k K.Array && isUniformArray (inside n))
+flawedPart Twin k n = twins (namesOf n)
+flawedPart Blank k n = any isEmpty (namesOf n)
+flawedPart Long k n = false
+flawedPart Low k n = isLow (numberOf n)
+flawedPart Wide k n = same k K.Float64 && isHeld (numberOf n)
+flawedPart NotUtf8 k n = any (λ t. not (isText t)) (textsOf n)
+flawedPart NotUniform k n = (same k K.Object && isUniform (inside n)) || (same k K.Array && isUniformArray (inside n))
 
 abbrev pub flawed : Flaw → (d : ℕ) → Standing (Layout d) → Bool
 flawed f d x = any (λ p. flawedPart f (p .0) (p .1)) (parts d x)
@@ -112,10 +113,10 @@ sumWhere modes so (f ∷ fs) = cond (isAsked modes (modeOf f) && so f) (flawValu
 
 -- what the layout has; and l, whether a VarUInt was not minimal
 abbrev pub shownFlaw : (d : ℕ) → Standing (Layout d) → Bool → Flaw → Bool
-shownFlaw d x l twin = flawed twin d x
-shownFlaw d x l blank = flawed blank d x
-shownFlaw d x l long = l
-shownFlaw d x l low = flawed low d x
-shownFlaw d x l wide = flawed wide d x
-shownFlaw d x l notText = flawed notText d x
-shownFlaw d x l notUniform = flawed notUniform d x
+shownFlaw d x l Twin = flawed Twin d x
+shownFlaw d x l Blank = flawed Blank d x
+shownFlaw d x l Long = l
+shownFlaw d x l Low = flawed Low d x
+shownFlaw d x l Wide = flawed Wide d x
+shownFlaw d x l NotUtf8 = flawed NotUtf8 d x
+shownFlaw d x l NotUniform = flawed NotUniform d x

@@ -9,21 +9,24 @@ use Rattle.format.specs.declared.Kind.{Kind}
 use Rattle.format.specs.declared.Form.{Form}
 use Rattle.format.specs.declared.Stop.{Stop}
 use Rattle.format.specs.declared.Stop.the-variants.{TooDeep}
-use Rattle.head.specs.declared.Modes.{Modes}
-use Rattle.head.specs.declared.Faults.{Faults}
+use Rattle.faults.specs.declared.Modes.{Modes}
+use Rattle.faults.specs.declared.Faults.{Faults}
 use Rattle.head.specs.declared.Met.{Met}
 use Rattle.head.specs.declared.Met.the-variants as M
-use Rattle.format.specs.Parse.{Flaw, Out, fault, got, withFlaws, bind, make, whole}
+use Rattle.format.specs.declared.Flaw.{Flaw}
+use Rattle.format.specs.Parse.{Out, fault, got, withFlaws, bind, make, whole}
 use Rattle.format.specs.Payload.{front, Head, value, fieldsIn, itemsIn, head}
 use Rattle.format.specs.Tree.{Node}
 use Rattle.format.specs.Reader.{Standing, Named, Reader, read, readField, contents}
-use Rattle.head.specs.Code.{noted, answerOf, meeting, metIn, meetAt}
+use Rattle.faults.specs.Noted.{noted}
+use Rattle.head.specs.Code.{answerOf, meeting, metIn, meetAt}
 use Rattle.head.specs.Pieces.{between}
 use Rattle.format.proofs.Local.{bind-got}
 use Rattle.format.proofs.HeadParts.{front-takes, head-body, Body}
 use Rattle.head.proofs.HeadLaws.{answer-make}
 use Rattle.head.proofs.MeetCases.{rest-all}
-use Rattle.head.proofs.FaultLaws.{noted-none, answer-flaws}
+use Rattle.faults.proofs.NotedLaws.{noted-none}
+use Rattle.head.proofs.AnswerLaws.{answer-flaws}
 use Rattle.validate.specs.declared.Field.{Field}
 use Rattle.validate.specs.declared.Field.the-variants as F
 use Rattle.validate.specs.declared.Contents.{Contents}

@@ -10,19 +10,22 @@ use Rattle.format.specs.declared.Kind.{Kind}
 use Rattle.format.specs.declared.Form.{Form}
 use Rattle.format.specs.declared.Stop.{Stop}
 use Rattle.format.specs.declared.Stop.the-variants.{Early}
-use Rattle.head.specs.declared.Modes.{Modes}
-use Rattle.head.specs.declared.Faults.{Faults}
+use Rattle.faults.specs.declared.Modes.{Modes}
+use Rattle.faults.specs.declared.Faults.{Faults}
 use Rattle.format.specs.Kinds.{isUniform, isUniformArray}
 use Rattle.format.specs.Names.{twins}
 use Rattle.format.specs.Tree.{array, object}
-use Rattle.format.specs.Parse.{Flaw, twin, notUniform, Out, fault, got, withFlaws, bind, raise, whole, many, fill}
+use Rattle.format.specs.declared.Flaw.{Flaw}
+use Rattle.format.specs.declared.Flaw.the-variants.{Twin, NotUniform}
+use Rattle.format.specs.Parse.{Out, fault, got, withFlaws, bind, raise, whole, many, fill}
 use Rattle.format.specs.Payload.{fieldsIn, itemsIn}
 use Rattle.format.specs.Reader.{Standing, Named, Layout, kindsIn, namesIn, isTyped, read}
-use Rattle.head.specs.Code.{noted, flawIf, answerOf}
+use Rattle.faults.specs.Noted.{noted, flawIf}
+use Rattle.head.specs.Code.{answerOf}
 use Rattle.head.specs.Pieces.{between}
 use Rattle.format.proofs.Local.{with-put}
 use Rattle.head.proofs.MeetCases.{end-drop, rest-all}
-use Rattle.head.proofs.FaultLaws.{noted-none, noted-more}
+use Rattle.faults.proofs.NotedLaws.{noted-none, noted-more}
 use Rattle.validate.specs.declared.Field.{Field}
 use Rattle.validate.specs.declared.Field.the-variants as F
 use Rattle.validate.specs.declared.Contents.the-variants as C
@@ -202,18 +205,18 @@ module _ (f : Form) (m : Modes) (d : ℕ) (g : Faults) (s : List ℕ) where
         let b = twins (namesIn (z .xs)) in
         rw (
           o,
-          raised b twin (object (z .xs)) [] [],
-          raised a notUniform (object (z .xs)) (flawIf b twin ++ []) [],
-          with-put (z .fs) (flawIf a notUniform ++ (flawIf b twin ++ [])) (object (z .xs)) [],
+          raised b Twin (object (z .xs)) [] [],
+          raised a NotUniform (object (z .xs)) (flawIf b Twin ++ []) [],
+          with-put (z .fs) (flawIf a NotUniform ++ (flawIf b Twin ++ [])) (object (z .xs)) [],
           e,
           names-read d f s o,
           z .run,
           alike-uniform (kindsIn (z .xs)),
           z .met,
-          noted-more m g (z .fs) (flawIf a notUniform),
-          noted-more m g (z .fs ++ flawIf a notUniform) (flawIf b twin),
-          nil (flawIf b twin),
-          append-assoc (z .fs) (flawIf a notUniform) (flawIf b twin),
+          noted-more m g (z .fs) (flawIf a NotUniform),
+          noted-more m g (z .fs ++ flawIf a NotUniform) (flawIf b Twin),
+          nil (flawIf b Twin),
+          append-assoc (z .fs) (flawIf a NotUniform) (flawIf b Twin),
         )
 
 -- ---- an array
@@ -240,13 +243,13 @@ module _ (f : Form) (n : ℕ) (m : Modes) (d : ℕ) (g : Faults) (s : List ℕ) 
     -- what was read, with the bytes behind it
     items-done : room ≡ 0 → (r : List ℕ) → drop at s ≡ r
         → contentsAt (itemsIn f n s) m d g
-        ≡ answerOf C.Stop (λ t h r. C.Read h) m g (whole (got (array (map (λ x. x .1) (l .sofar .xs))) (l .sofar .fs ++ (flawIf (isTyped f && isUniformArray (kindsIn (l .sofar .xs))) notUniform ++ [])) r) [])
+        ≡ answerOf C.Stop (λ t h r. C.Read h) m g (whole (got (array (map (λ x. x .1) (l .sofar .xs))) (l .sofar .fs ++ (flawIf (isTyped f && isUniformArray (kindsIn (l .sofar .xs))) NotUniform ++ [])) r) [])
     unfolding contentsAt
     items-done i r k =
         let z = l .sofar in
         let o = sofar-stop m d g _ _ h u z r (rw (i, k)) in
         let a = isTyped f && isUniformArray (kindsIn (z .xs)) in
-        rw (o, raised a notUniform (array (map (λ x. x .1) (z .xs))) [] r, with-put (z .fs) (flawIf a notUniform ++ []) (array (map (λ x. x .1) (z .xs))) r)
+        rw (o, raised a NotUniform (array (map (λ x. x .1) (z .xs))) [] r, with-put (z .fs) (flawIf a NotUniform ++ []) (array (map (λ x. x .1) (z .xs))) r)
 
     -- bytes left
     pub items-left : room ≡ 0 → at < length s → C.Stop Early ≡ contentsAt (itemsIn f n s) m d g
@@ -261,5 +264,5 @@ module _ (f : Form) (n : ℕ) (m : Modes) (d : ℕ) (g : Faults) (s : List ℕ) 
     items-end i j v e = go (drop at s) refl
       where
         go : (r : List ℕ) → drop at s ≡ r → C.Read v ≡ contentsAt (itemsIn f n s) m d g
-        go [] k = rw (items-done i [] k, e, l .sofar .run, alike-uniform-array (kindsIn (l .sofar .xs)), l .sofar .met, noted-more m g (l .sofar .fs) (flawIf (isTyped f && isUniformArray (kindsIn (l .sofar .xs))) notUniform), nil (flawIf (isTyped f && isUniformArray (kindsIn (l .sofar .xs))) notUniform))
+        go [] k = rw (items-done i [] k, e, l .sofar .run, alike-uniform-array (kindsIn (l .sofar .xs)), l .sofar .met, noted-more m g (l .sofar .fs) (flawIf (isTyped f && isUniformArray (kindsIn (l .sofar .xs))) NotUniform), nil (flawIf (isTyped f && isUniformArray (kindsIn (l .sofar .xs))) NotUniform))
         go (b ∷ r) k = absurd (omega (arith, length-drop at s, ap length k))

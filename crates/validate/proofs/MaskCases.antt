@@ -11,13 +11,15 @@ use Rattle.format.specs.declared.Kind.{Kind}
 use Rattle.format.specs.declared.Stop.{Stop}
 use Rattle.format.specs.declared.Stop.the-variants.{TooLong}
 use Rattle.format.specs.declared.Form.the-variants.{Top}
-use Rattle.head.specs.declared.Faults.{Faults}
+use Rattle.faults.specs.declared.Faults.{Faults}
 use Rattle.format.specs.Limits.{depthLimit, lengthLimit}
-use Rattle.format.specs.Parse.{Flaw, Out, fault, got}
+use Rattle.format.specs.declared.Flaw.{Flaw}
+use Rattle.format.specs.Parse.{Out, fault, got}
 use Rattle.format.specs.Mask.{flaws, has, isAsked, namesMode, formatMode, sumOf, paddingMode, paddingOf, stopValue, maskOf, mask}
 use Rattle.format.specs.Reader.{Named, Standing, Layout, read}
-use Rattle.head.specs.Code.{nothing, asks, noted, sumIn, answerOf}
-use Rattle.head.proofs.FaultSums.{noted-sum, sum-fits}
+use Rattle.faults.specs.Noted.{nothing, asks, noted, sumIn}
+use Rattle.head.specs.Code.{answerOf}
+use Rattle.faults.proofs.SumLaws.{noted-sum, sum-fits}
 use Rattle.validate.specs.declared.Field.{Field}
 use Rattle.validate.specs.declared.Field.the-variants as F
 use Rattle.validate.specs.Checks.{fieldAt, asked}

@@ -13,11 +13,12 @@ use Rattle.text.specs.Equal.{equal}
 use Rattle.format.specs.declared.Kind.{Kind}
 use Rattle.format.specs.declared.Form.{Form}
 use Rattle.format.specs.declared.Stop.the-variants.{Early}
-use Rattle.head.specs.declared.Modes.{Modes}
-use Rattle.head.specs.declared.Faults.{Faults}
+use Rattle.faults.specs.declared.Modes.{Modes}
+use Rattle.faults.specs.declared.Faults.{Faults}
 use Rattle.head.specs.declared.Met.{Met}
 use Rattle.head.specs.declared.Met.the-variants as M
-use Rattle.format.specs.Parse.{Flaw, Out, fault, got, fill}
+use Rattle.format.specs.declared.Flaw.{Flaw}
+use Rattle.format.specs.Parse.{Out, fault, got, fill}
 use Rattle.format.specs.Kinds.{any}
 use Rattle.format.specs.Names.{twins}
 use Rattle.format.specs.Payload.{front, Head, value, fieldsIn, itemsIn, head}

@@ -6,14 +6,14 @@ use mathlib.Core.List.{List, [], _∷_, _++_}
 use lib.Dec.{eqb}
 use Rattle.format.specs.declared.Kind.{Kind}
 use Rattle.format.specs.declared.Form.{Form}
-use Rattle.head.specs.declared.Modes.{Modes}
-use Rattle.head.specs.declared.Faults.{Faults}
+use Rattle.faults.specs.declared.Modes.{Modes}
+use Rattle.faults.specs.declared.Faults.{Faults}
 use Rattle.format.specs.declared.Form.the-variants as G
 use Rattle.format.specs.Kinds.{id, same, all, isBare, isUniform, isUniformArray}
-use Rattle.format.specs.Parse.{twin, notUniform}
+use Rattle.format.specs.declared.Flaw.the-variants.{Twin, NotUniform}
 use Rattle.format.specs.Reader.{isTyped}
-use Rattle.head.specs.Code.{noted, flawIf}
-use Rattle.head.proofs.FaultLaws.{unasked}
+use Rattle.faults.specs.Noted.{noted, flawIf}
+use Rattle.faults.proofs.NotedLaws.{unasked}
 use Rattle.validate.specs.declared.Run.{Run}
 use Rattle.validate.specs.declared.Run.the-variants as R
 use Rattle.validate.specs.declared.Contents.{Contents}
@@ -111,18 +111,18 @@ pub close-read : (x : Contents) (k : Kind) (e : ℕ) (h : Faults) → x ≡ C.Re
 close-read x k e h z = rw z
 
 module _ (f : Form) (m : Modes) (h : Faults) (u : Run) where
-  module _ (a b : Bool) (i : a ≡ isTyped f) (j : b ≡ alike u) (v : Faults) (k : v ≡ noted m h (flawIf (a && b) notUniform)) where
-    uniform : v ≡ noted m h (flawIf (isTyped f && alike u) notUniform)
+  module _ (a b : Bool) (i : a ≡ isTyped f) (j : b ≡ alike u) (v : Faults) (k : v ≡ noted m h (flawIf (a && b) NotUniform)) where
+    uniform : v ≡ noted m h (flawIf (isTyped f && alike u) NotUniform)
     uniform = rw (k, i, j)
 
-    pub object-asked : (s : List ℕ) (r : Faults) (t : Bool) → t ≡ twinsAt f s → r ≡ noted m v (flawIf t twin) → r ≡ objectEnd f m h u s
+    pub object-asked : (s : List ℕ) (r : Faults) (t : Bool) → t ≡ twinsAt f s → r ≡ noted m v (flawIf t Twin) → r ≡ objectEnd f m h u s
     unfolding objectEnd
-    object-asked s r t e w = w ∙ ap (λ x. noted m v (flawIf x twin)) e ∙ ap (λ x. noted m x (flawIf (twinsAt f s) twin)) uniform
+    object-asked s r t e w = w ∙ ap (λ x. noted m v (flawIf x Twin)) e ∙ ap (λ x. noted m x (flawIf (twinsAt f s) Twin)) uniform
 
     pub object-unasked : (s : List ℕ) → m .names ≡ false → v ≡ objectEnd f m h u s
     unfolding objectEnd
-    object-unasked s e = sym (ap (λ x. noted m x (flawIf (twinsAt f s) twin)) (sym uniform) ∙ unasked m v (twinsAt f s) twin e)
+    object-unasked s e = sym (ap (λ x. noted m x (flawIf (twinsAt f s) Twin)) (sym uniform) ∙ unasked m v (twinsAt f s) Twin e)
 
-  pub array-ended : (r : Faults) (a b : Bool) → a ≡ isTyped f → b ≡ alikeFull u → r ≡ noted m h (flawIf (a && b) notUniform) → r ≡ arrayEnd f m h u
+  pub array-ended : (r : Faults) (a b : Bool) → a ≡ isTyped f → b ≡ alikeFull u → r ≡ noted m h (flawIf (a && b) NotUniform) → r ≡ arrayEnd f m h u
   unfolding arrayEnd
   array-ended r a b i j k = rw (k, i, j)

@@ -12,13 +12,13 @@ use Rattle.format.specs.declared.Kind.{Kind}
 use Rattle.format.specs.declared.Form.{Form}
 use Rattle.format.specs.declared.Form.the-variants as G
 use Rattle.format.specs.declared.Stop.the-variants.{Early, TooDeep}
-use Rattle.head.specs.declared.Modes.{Modes}
-use Rattle.head.specs.declared.Faults.{Faults}
+use Rattle.faults.specs.declared.Modes.{Modes}
+use Rattle.faults.specs.declared.Faults.{Faults}
 use Rattle.head.specs.declared.Met.the-variants as M
 use Rattle.format.specs.Payload.{itemsIn}
-use Rattle.head.specs.Code.{noted}
+use Rattle.faults.specs.Noted.{noted}
 use Rattle.head.specs.Pieces.{between, fixedSize}
-use Rattle.head.proofs.FaultLaws.{noted-none}
+use Rattle.faults.proofs.NotedLaws.{noted-none}
 use Rattle.head.proofs.MeetCases.{rest-all, fixed-short, fixed-long}
 use Rattle.validate.specs.declared.Contents.{Contents}
 use Rattle.validate.specs.declared.Contents.the-variants as C

@@ -9,15 +9,17 @@ use Rattle.format.specs.declared.Kind.{Kind}
 use Rattle.format.specs.declared.Form.{Form}
 use Rattle.format.specs.declared.Form.the-variants as G
 use Rattle.format.specs.declared.Stop.the-variants.{Early, TooDeep}
-use Rattle.head.specs.declared.Modes.{Modes}
-use Rattle.head.specs.declared.Faults.{Faults}
+use Rattle.faults.specs.declared.Modes.{Modes}
+use Rattle.faults.specs.declared.Faults.{Faults}
 use Rattle.format.specs.Kinds.{same, all, isBare}
-use Rattle.format.specs.Parse.{twin, notUniform, whole}
+use Rattle.format.specs.declared.Flaw.the-variants.{Twin, NotUniform}
+use Rattle.format.specs.Parse.{whole}
 use Rattle.format.specs.Payload.{Head}
 use Rattle.format.specs.Mask.{isAsked, namesMode, formatMode}
 use Rattle.format.specs.Reader.{read, contents, isTyped}
 use Rattle.head.specs.Pieces.{fixedSize}
-use Rattle.head.specs.Code.{noted, flawIf, answerOf}
+use Rattle.faults.specs.Noted.{noted, flawIf}
+use Rattle.head.specs.Code.{answerOf}
 use Rattle.validate.specs.declared.Field.{Field}
 use Rattle.validate.specs.declared.Field.the-variants as F
 use Rattle.validate.specs.declared.Contents.{Contents}
@@ -61,10 +63,10 @@ alikeFull R.Mixed = false
 -- ---- the fields of an object, the items of an array, together
 
 unfoldable pub objectEnd : Form → Modes → Faults → Run → List ℕ → Faults
-objectEnd f m h u s = noted m (noted m h (flawIf (isTyped f && alike u) notUniform)) (flawIf (twinsAt f s) twin)
+objectEnd f m h u s = noted m (noted m h (flawIf (isTyped f && alike u) NotUniform)) (flawIf (twinsAt f s) Twin)
 
 unfoldable pub arrayEnd : Form → Modes → Faults → Run → Faults
-arrayEnd f m h u = noted m h (flawIf (isTyped f && alikeFull u) notUniform)
+arrayEnd f m h u = noted m h (flawIf (isTyped f && alikeFull u) NotUniform)
 
 -- ---- items of which the kind tells the size
 

@@ -1,10 +1,11 @@
 // The validator. A field calls the check of its contents, which calls the check of each field in them: the depth left falls.
+use faults::Faults;
+use faults::Modes;
+use format::Flaw;
 use format::Form;
 use format::Kind;
 use format::Stop;
-use head::Faults;
 use head::Met;
-use head::Modes;
 ghost use mathlib.Core.Path.{_≡_};
 ghost use Prim.Native.Nat.{_≤_, _<_};
 ghost use mathlib.Core.Bool.{cond, not, _&&_};
@@ -111,9 +112,14 @@ fn close(contents: Contents, kind: Kind, end: usize) -> Field
 fn end_object(part: &[u8], form: Form, modes: Modes, faults: Faults, run: Run) -> Faults
     ensures { λ r. ⌜ r ≡ objectEnd form modes faults run (now (part .entry)) ⌝ }
 {
-    let met = head::with_uniform(modes, faults, is_typed(form) & is_alike(run));
+    let met = faults::note(
+        modes,
+        faults,
+        Flaw::NotUniform,
+        is_typed(form) & is_alike(run),
+    );
     if modes.names {
-        head::with_twin(modes, met, names::twins(part, form))
+        faults::note(modes, met, Flaw::Twin, names::twins(part, form))
     } else {
         met
     }
@@ -122,7 +128,12 @@ fn end_object(part: &[u8], form: Form, modes: Modes, faults: Faults, run: Run) -
 fn end_array(form: Form, modes: Modes, faults: Faults, run: Run) -> Faults
     ensures { λ r. ⌜ r ≡ arrayEnd form modes faults run ⌝ }
 {
-    head::with_uniform(modes, faults, is_typed(form) & is_alike_full(run))
+    faults::note(
+        modes,
+        faults,
+        Flaw::NotUniform,
+        is_typed(form) & is_alike_full(run),
+    )
 }
 
 // The size that every item has by its kind; 0 where the kind does not tell.
@@ -311,11 +322,12 @@ pub fn validate(modes: u32, payload: &[u8]) -> u32
         names: is_asked(modes, 1),
         format: is_asked(modes, 2),
     };
-    let nothing = head::no_faults();
+    let nothing = faults::no_faults();
     match check_field(payload, Form::Top, asked, format::DEPTH as usize, nothing) {
         Field::Stop(stop) => stop_value(stop),
         Field::Read { kind, end, faults } => {
-            head::sum_of(faults) as u32 + value_if(is_asked(modes, 4) & (end < payload.len()), 4096)
+            faults::sum_of(faults) as u32
+                + value_if(is_asked(modes, 4) & (end < payload.len()), 4096)
         }
     }
 }

@@ -1,7 +1,7 @@
 // Whether two fields that stand in a part have equal names.
+use faults::Modes;
 use format::Form;
 use head::Met;
-use head::Modes;
 ghost use mathlib.Core.Path.{_≡_};
 ghost use Prim.Native.Nat.{_≤_};
 ghost use lib.ListN.{length};
@@ -77,7 +77,7 @@ fn name_at(part: &[u8], at: usize, form: Form) -> Name
         names: false,
         format: false,
     };
-    let faults = head::no_faults();
+    let faults = faults::no_faults();
     match name_of(head::meet_of(&part[at..], form, modes, faults)) {
         Name::Nothing => Name::Nothing,
         Name::At { begin, end, next } => Name::At {

@@ -21,7 +21,9 @@ use Rattle.frames.specs.declared.Refusal.the-variants.{BadFrame, EmptyName, Nam
 use Rattle.format.specs.Kinds.{id, known, any}
 use Rattle.format.specs.Mask.{has}
 use Rattle.format.specs.Names.{readName, twins}
-use Rattle.format.specs.Parse.{Flaw, blank, long, low, wide, notText, Out, fault, got, fixed}
+use Rattle.format.specs.declared.Flaw.{Flaw}
+use Rattle.format.specs.declared.Flaw.the-variants.{Blank, Long, Low, Wide, NotUtf8}
+use Rattle.format.specs.Parse.{Out, fault, got, fixed}
 use Rattle.format.specs.Tree.{number, nan64, Leaf, float, Node, Tree, FloatWithin, LeafWithin, NameWithin, NodeWithin, Within}
 use Rattle.format.specs.Payload.{float64, readFloat64, Payload, leaf, fields, sharedFields, items, sharedItems, payload}
 use Rattle.frames.specs.WriteList.{refused, framed, next, frameKind, frameName, nameFound, leafFound, frame, FrameReader, readFrames, only, readList}
@@ -57,7 +59,7 @@ float64-within b l = go (isNan64 b) refl
 
 -- a Float64 that Float32 holds is one too
 double-within : (s : List ℕ) → Bytes s → {v : Leaf} {fs : List Flaw} {r : List ℕ} → readFloat64 s ≡ got v fs r → LeafWithin v
-double-within s w {v} h = bind-got (fixed 8 s) _ h λ b es q gs e k ef. raise-got (holds (fromBytes b)) wide (got (float (float64 (fromBytes b))) [] q) k λ hs i.
+double-within s w {v} h = bind-got (fixed 8 s) _ h λ b es q gs e k ef. raise-got (holds (fromBytes b)) Wide (got (float (float64 (fromBytes b))) [] q) k λ hs i.
     let f = fixed-bytes 8 s w e in
     let z : float (float64 (fromBytes b)) ≡ v = cc in
     subst LeafWithin z (float64-within (fromBytes b) (bits-lt 8 b (f .0) (f .1)))
@@ -74,7 +76,7 @@ leaf-within k p e f s w {v} {r} h = leaf-found f (p s) h λ fs y a b c. go fs y 
     plain items y o i = absurd (let z : _≡_ {A = ℕ} 0 1 = cc in omega arith)
     plain sharedItems y o i = absurd (let z : _≡_ {A = ℕ} 0 1 = cc in omega arith)
 
-    go : (fs : List Flaw) → p s ≡ got v fs r → has long fs ≡ false → has low fs ≡ false → has notText fs ≡ false → (x : Bool) → eqb (id k) 11 ≡ x → LeafWithin v
+    go : (fs : List Flaw) → p s ≡ got v fs r → has Long fs ≡ false → has Low fs ≡ false → has NotUtf8 fs ≡ false → (x : Bool) → eqb (id k) 11 ≡ x → LeafWithin v
     go fs y a b c true i =
         let t : payload Float64 ≡ leaf p = rw (kind-double k (eqb-true (id k) 11 i)) at e in
         let u : readFloat64 ≡ p = cc in
@@ -110,7 +112,7 @@ fresh-twins used (n ∷ ns) f = rw (fresh-apart (n ∷ used) ns n (rw (equal-ref
 -- refusal 4
 name-fresh : (f : List ℕ) (used : List (List ℕ)) (o : Out (List ℕ)) {n q : List ℕ} → nameFound f used o ≡ framed n q → any (equal n) used ≡ false
 name-fresh f used (fault k) h = never h
-name-fresh f used (got m fs r) {n} {q} h = go (has long fs) (has blank fs) (has notText fs) (any (equal m) used) refl h
+name-fresh f used (got m fs r) {n} {q} h = go (has Long fs) (has Blank fs) (has NotUtf8 fs) (any (equal m) used) refl h
   where
     go : (a b c d : Bool) → any (equal m) used ≡ d → cond a (refused BadFrame f) (cond b (refused EmptyName f) (cond c (refused NotText f) (cond d (refused NameUsed f) (framed m r)))) ≡ framed n q
         → any (equal n) used ≡ false

@@ -16,7 +16,9 @@ use Rattle.frames.specs.declared.Refusal.{Refusal}
 use Rattle.frames.specs.declared.Refusal.the-variants.{TooDeep, BadFrame, NotText}
 use Rattle.format.specs.Kinds.{id}
 use Rattle.format.specs.Mask.{has}
-use Rattle.format.specs.Parse.{Flaw, long, low, notText, Out, fault, got}
+use Rattle.format.specs.declared.Flaw.{Flaw}
+use Rattle.format.specs.declared.Flaw.the-variants.{Long, Low, NotUtf8}
+use Rattle.format.specs.Parse.{Out, fault, got}
 use Rattle.format.specs.Payload.{leaf, payload}
 use Rattle.format.specs.Tree.{Leaf, atom, Tree}
 use Rattle.frames.specs.WriteList.{Frames, refused, framed, next, isWritable, leafFound, framePayload, FrameReader, readFrames}
@@ -246,7 +248,7 @@ module _ (s : List ℕ) (at : ℕ) (named : Bool) (base top k : ℕ) (names name
                 → (m ≡ fieldMeasured (suc e) (length s) named top k (withName (g .name) (next (leafFound (drop at s) o) λ v u. framed (atom v) u)))
                 × (w ≡ fieldWork (suc e) k w w (withName (g .name) (next (leafFound (drop at s) o) λ v u. framed (atom v) u)))
             cases e g (fault j) h = (h ∙ rw (place s at (omega arith)), refl)
-            cases e g (got v fs r) h = same e g (has long fs) (has low fs) (has notText fs) v fs r h
+            cases e g (got v fs r) h = same e g (has Long fs) (has Low fs) (has NotUtf8 fs) v fs r h
 
             go : (e : ℕ) (p : List ℕ → Out Leaf) (g : Got) → m ≡ leafMeasured at before above k (leafMet (length s) (leafFound (drop start s) (p (g .left))))
                 → FieldBy (suc e) s named top k names names₁ w w m (withName (g .name) (next (leafFound (drop at s) (p (g .left))) λ v u. framed (atom v) u))

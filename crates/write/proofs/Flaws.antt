@@ -18,7 +18,9 @@ use Rattle.format.specs.declared.Kind.the-variants.{Null, Object, UniformObject
 use Rattle.format.specs.declared.Stop.the-variants.{Early}
 use Rattle.format.specs.Kinds.{id}
 use Rattle.format.specs.Mask.{has}
-use Rattle.format.specs.Parse.{Flaw, twin, blank, long, low, wide, notText, notUniform, Out, fault, got, withFlaws, bind, raise, make, whole, number, readVarUInt, fixed, sized, rest}
+use Rattle.format.specs.declared.Flaw.{Flaw}
+use Rattle.format.specs.declared.Flaw.the-variants.{Twin, Blank, Long, Low, Wide, NotUtf8, NotUniform}
+use Rattle.format.specs.Parse.{Out, fault, got, withFlaws, bind, raise, make, whole, number, readVarUInt, fixed, sized, rest}
 use Rattle.format.specs.Names.{isEmpty, readText, readName}
 use Rattle.format.specs.Tree.{Leaf, integer, float, binary, string, objectAttachment, binaryAttachment, hash, uuid, objectId, dateTime, timeSpan, customById, customByName}
 use Rattle.format.specs.Payload.{float32, readCustomById, readCustomByName, Payload, leaf, fields, sharedFields, items, sharedItems, payload}
@@ -68,14 +70,14 @@ module _ (ok : Flaw → Bool) where
       go true = tt
       go false = tt
 
-  module _ (e : ok long ≡ true) where
+  module _ (e : ok Long ≡ true) where
     only-number : (s : List ℕ) → Only ok (readVarUInt s)
     unfolding readVarUInt
     only-number s = go (varUInt s)
       where
         go : (o : VarUInt) → Only ok (number o s)
         go Cut = tt
-        go (Whole v n m) = only-raise (not m) long (got v [] (drop n s)) e tt
+        go (Whole v n m) = only-raise (not m) Long (got v [] (drop n s)) e tt
 
     only-sized : {A : Type 0} (p : List ℕ → Out A) → ((s : List ℕ) → Only ok (p s)) → (s : List ℕ) → Only ok (sized p s)
     only-sized p f s = only-bind (readVarUInt s) (λ n r. cond (ltb (length r) n) (fault Early) (whole (p (take n r)) (drop n r))) (only-number s) λ n r. go n r (ltb (length r) n)
@@ -87,12 +89,12 @@ module _ (ok : Flaw → Bool) where
     only-bytes : (s : List ℕ) → Only ok (sized rest s)
     only-bytes s = only-sized rest (λ s. tt) s
 
-    module _ (i : ok notText ≡ true) where
+    module _ (i : ok NotUtf8 ≡ true) where
       only-text : (s : List ℕ) → Only ok (readText s)
-      only-text s = only-bind (sized rest s) (λ t r. raise (not (isText t)) notText (got t [] r)) (only-bytes s) (λ t r. only-raise (not (isText t)) notText (got t [] r) i tt)
+      only-text s = only-bind (sized rest s) (λ t r. raise (not (isText t)) NotUtf8 (got t [] r)) (only-bytes s) (λ t r. only-raise (not (isText t)) NotUtf8 (got t [] r) i tt)
 
-      only-name : ok blank ≡ true → (s : List ℕ) → Only ok (readName s)
-      only-name j s = only-bind (readText s) (λ n r. raise (isEmpty n) blank (got n [] r)) (only-text s) (λ n r. only-raise (isEmpty n) blank (got n [] r) j tt)
+      only-name : ok Blank ≡ true → (s : List ℕ) → Only ok (readName s)
+      only-name j s = only-bind (readText s) (λ n r. raise (isEmpty n) Blank (got n [] r)) (only-text s) (λ n r. only-raise (isEmpty n) Blank (got n [] r) j tt)
 
       -- a leaf that is no Float64
       abbrev PlainBy : Payload → Type 0
@@ -102,7 +104,7 @@ module _ (ok : Flaw → Bool) where
       PlainBy items = Unit {0}
       PlainBy sharedItems = Unit {0}
 
-      only-leaf : ok low ≡ true → (k : Kind) → (id k ≡ 11 → ⊥) → PlainBy (payload k)
+      only-leaf : ok Low ≡ true → (k : Kind) → (id k ≡ 11 → ⊥) → PlainBy (payload k)
       unfolding payload
       only-leaf j Null h = λ s. tt
       only-leaf j Object h = tt
@@ -112,7 +114,7 @@ module _ (ok : Flaw → Bool) where
       only-leaf j Binary h = λ s. only-make binary (sized rest s) (only-bytes s)
       only-leaf j String h = λ s. only-make string (readText s) (only-text s)
       only-leaf j IntegerPositive h = λ s. only-make (λ m. integer (pos m)) (readVarUInt s) (only-number s)
-      only-leaf j IntegerNegative h = λ s. only-bind (readVarUInt s) (λ m r. raise (not (ltb m (2 ^ 63))) low (got (integer (negsuc m)) [] r)) (only-number s) (λ m r. only-raise (not (ltb m (2 ^ 63))) low (got (integer (negsuc m)) [] r) j tt)
+      only-leaf j IntegerNegative h = λ s. only-bind (readVarUInt s) (λ m r. raise (not (ltb m (2 ^ 63))) Low (got (integer (negsuc m)) [] r)) (only-number s) (λ m r. only-raise (not (ltb m (2 ^ 63))) Low (got (integer (negsuc m)) [] r) j tt)
       only-leaf j Float32 h = λ s. only-make (λ b. float (float32 (fromBytes b))) (fixed 4 s) (only-fixed 4 s)
       only-leaf j Float64 h = absurd (h refl)
       only-leaf j False h = λ s. tt
@@ -130,37 +132,37 @@ module _ (ok : Flaw → Bool) where
 -- ---- none of them
 
 has-self : (f : Flaw) (fs : List Flaw) → has f (f ∷ fs) ≡ true
-has-self twin fs = refl
-has-self blank fs = refl
-has-self long fs = refl
-has-self low fs = refl
-has-self wide fs = refl
-has-self notText fs = refl
-has-self notUniform fs = refl
+has-self Twin fs = refl
+has-self Blank fs = refl
+has-self Long fs = refl
+has-self Low fs = refl
+has-self Wide fs = refl
+has-self NotUtf8 fs = refl
+has-self NotUniform fs = refl
 
 none-of : (ok : Flaw → Bool) (fs : List Flaw) → Passing ok fs → ((f : Flaw) → ok f ≡ true → has f fs ≡ false) → fs ≡ []
 none-of ok [] a h = refl
 none-of ok (f ∷ fs) a h = untrue (sym (h f (a .0)) ∙ has-self f fs)
 
 abbrev okName : Flaw → Bool
-okName twin = false
-okName blank = true
-okName long = true
-okName low = false
-okName wide = false
-okName notText = true
-okName notUniform = false
+okName Twin = false
+okName Blank = true
+okName Long = true
+okName Low = false
+okName Wide = false
+okName NotUtf8 = true
+okName NotUniform = false
 
 abbrev okLeaf : Flaw → Bool
-okLeaf twin = false
-okLeaf blank = false
-okLeaf long = true
-okLeaf low = true
-okLeaf wide = false
-okLeaf notText = true
-okLeaf notUniform = false
+okLeaf Twin = false
+okLeaf Blank = false
+okLeaf Long = true
+okLeaf Low = true
+okLeaf Wide = false
+okLeaf NotUtf8 = true
+okLeaf NotUniform = false
 
-pub name-clean : (s : List ℕ) {n : List ℕ} {fs : List Flaw} {r : List ℕ} → readName s ≡ got n fs r → has long fs ≡ false → has blank fs ≡ false → has notText fs ≡ false → fs ≡ []
+pub name-clean : (s : List ℕ) {n : List ℕ} {fs : List Flaw} {r : List ℕ} → readName s ≡ got n fs r → has Long fs ≡ false → has Blank fs ≡ false → has NotUtf8 fs ≡ false → fs ≡ []
 name-clean s {n} {fs} {r} h a b c = none-of okName fs (go (readName s) h (only-name okName refl refl refl s)) by
   where
     go : (o : Out (List ℕ)) → o ≡ got n fs r → Only okName o → Passing okName fs
@@ -168,15 +170,15 @@ name-clean s {n} {fs} {r} h a b c = none-of okName fs (go (readName s) h (only-n
     go (got m gs q) e x = let z : gs ≡ fs = cc in rw z at x
 
     by : (f : Flaw) → okName f ≡ true → has f fs ≡ false
-    by twin e = untrue e
-    by blank e = b
-    by long e = a
-    by low e = untrue e
-    by wide e = untrue e
-    by notText e = c
-    by notUniform e = untrue e
+    by Twin e = untrue e
+    by Blank e = b
+    by Long e = a
+    by Low e = untrue e
+    by Wide e = untrue e
+    by NotUtf8 e = c
+    by NotUniform e = untrue e
 
-pub leaf-clean : (k : Kind) (p : List ℕ → Out Leaf) → (id k ≡ 11 → ⊥) → payload k ≡ leaf p → (s : List ℕ) {v : Leaf} {fs : List Flaw} {r : List ℕ} → p s ≡ got v fs r → has long fs ≡ false → has low fs ≡ false → has notText fs ≡ false → fs ≡ []
+pub leaf-clean : (k : Kind) (p : List ℕ → Out Leaf) → (id k ≡ 11 → ⊥) → payload k ≡ leaf p → (s : List ℕ) {v : Leaf} {fs : List Flaw} {r : List ℕ} → p s ≡ got v fs r → has Long fs ≡ false → has Low fs ≡ false → has NotUtf8 fs ≡ false → fs ≡ []
 leaf-clean k p ne e s {v} {fs} {r} h a b c = none-of okLeaf fs (at (payload k) e (only-leaf okLeaf refl refl refl k ne)) by
   where
     go : (o : Out Leaf) → o ≡ got v fs r → Only okLeaf o → Passing okLeaf fs
@@ -191,10 +193,10 @@ leaf-clean k p ne e s {v} {fs} {r} h a b c = none-of okLeaf fs (at (payload k) e
     at sharedItems e x = absurd (let z : _≡_ {A = ℕ} 0 1 = cc in omega arith)
 
     by : (f : Flaw) → okLeaf f ≡ true → has f fs ≡ false
-    by twin e = untrue e
-    by blank e = untrue e
-    by long e = a
-    by low e = b
-    by wide e = untrue e
-    by notText e = c
-    by notUniform e = untrue e
+    by Twin e = untrue e
+    by Blank e = untrue e
+    by Long e = a
+    by Low e = b
+    by Wide e = untrue e
+    by NotUtf8 e = c
+    by NotUniform e = untrue e

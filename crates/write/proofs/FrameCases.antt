@@ -25,7 +25,9 @@ use Rattle.frames.specs.declared.Refusal.{Refusal}
 use Rattle.frames.specs.declared.Refusal.the-variants.{BadFrame, EmptyName, NameUsed, NotText}
 use Rattle.format.specs.Kinds.{id, known, any}
 use Rattle.format.specs.Mask.{has}
-use Rattle.format.specs.Parse.{Flaw, long, blank, notText, Out, fault, got}
+use Rattle.format.specs.declared.Flaw.{Flaw}
+use Rattle.format.specs.declared.Flaw.the-variants.{Long, Blank, NotUtf8}
+use Rattle.format.specs.Parse.{Out, fault, got}
 use Rattle.format.specs.Names.{isEmpty, readName}
 use Rattle.head.specs.Pieces.{between}
 use Rattle.format.specs.Payload.{payload}
@@ -114,7 +116,7 @@ name-found : (f : List ℕ) (used : List (List ℕ)) (s : List ℕ) → Bytes s 
     → (readName s ≡ got n [] q) × (any (equal n) used ≡ false) × (s ≡ withSize n ++ q) × (isEmpty n ≡ false)
 name-found f used s w {n} {q} h = go (readName s) refl h
   where
-    by : (m : List ℕ) (fs : List Flaw) (r : List ℕ) → readName s ≡ got m fs r → (a b c d : Bool) → has long fs ≡ a → has blank fs ≡ b → has notText fs ≡ c → any (equal m) used ≡ d
+    by : (m : List ℕ) (fs : List Flaw) (r : List ℕ) → readName s ≡ got m fs r → (a b c d : Bool) → has Long fs ≡ a → has Blank fs ≡ b → has NotUtf8 fs ≡ c → any (equal m) used ≡ d
         → cond a (refused BadFrame f) (cond b (refused EmptyName f) (cond c (refused NotText f) (cond d (refused NameUsed f) (framed m r)))) ≡ framed n q
         → (readName s ≡ got n [] q) × (any (equal n) used ≡ false) × (s ≡ withSize n ++ q) × (isEmpty n ≡ false)
     by m fs r e true b c d ea eb ec ed h = never h
@@ -129,7 +131,7 @@ name-found f used s w {n} {q} h = go (readName s) refl h
 
     go : (o : Out (List ℕ)) → readName s ≡ o → nameFound f used o ≡ framed n q → (readName s ≡ got n [] q) × (any (equal n) used ≡ false) × (s ≡ withSize n ++ q) × (isEmpty n ≡ false)
     go (fault k) e h = never h
-    go (got m fs r) e h = by m fs r e (has long fs) (has blank fs) (has notText fs) (any (equal m) used) refl refl refl refl h
+    go (got m fs r) e h = by m fs r e (has Long fs) (has Blank fs) (has NotUtf8 fs) (any (equal m) used) refl refl refl refl h
 
 not-empty : (n : List ℕ) → isEmpty n ≡ false → 1 ≤ length n
 unfolding isEmpty
@@ -200,7 +202,7 @@ front-rests u (b ∷ s) h = rests-next (b ∷ s) (frameKind (b ∷ s) (known b) 
 
     found-rests : (used : List (List ℕ)) (o : Out (List ℕ)) → Rests (b ∷ s) (nameFound (b ∷ s) used o)
     found-rests used (fault k) = refl
-    found-rests used (got n fs r) = go (has long fs) (has blank fs) (has notText fs) (any (equal n) used)
+    found-rests used (got n fs r) = go (has Long fs) (has Blank fs) (has NotUtf8 fs) (any (equal n) used)
       where
         go : (p q o t : Bool) → Rests (b ∷ s) (cond p (refused BadFrame (b ∷ s)) (cond q (refused EmptyName (b ∷ s)) (cond o (refused NotText (b ∷ s)) (cond t (refused NameUsed (b ∷ s)) (framed n r)))))
         go true q o t = refl
@@ -229,7 +231,7 @@ module _ (s : List ℕ) (at : ℕ) (k : Kind) (base top : ℕ) (names : List ℕ
 
       go : (o : Out (List ℕ)) → N.Refused n ≡ nameBy (length s) o → nameFound f (usedAt s names base (top - base)) o ≡ refused n f
       go (fault j) h = let z : n ≡ BadFrame = cc in rw z
-      go (got m fs r) h = by m fs r (has long fs) (has blank fs) (has notText fs) h _
+      go (got m fs r) h = by m fs r (has Long fs) (has Blank fs) (has NotUtf8 fs) h _
 
   refused-at : (n : Refusal) → ((f : List ℕ) → nameFound f (usedAt s names base (top - base)) (readName (drop at s)) ≡ refused n f) → NamedAt s at k base top names names (F.Refused n)
   refused-at n h = record { answer = λ g. rw (h g); stack = λ g. record { kept = λ i l. refl; new = λ y r z. never (let o : refused n g ≡ framed y r = rw (h g) at z in o) } }
@@ -243,9 +245,9 @@ module _ (s : List ℕ) (at : ℕ) (k : Kind) (base top : ℕ) (names : List ℕ
       pub flaws : List Flaw
       pub left : List ℕ
       pub was : readName (drop at s) ≡ got name flaws left
-      pub short : has long flaws ≡ false
-      pub full : has blank flaws ≡ false
-      pub text : has notText flaws ≡ false
+      pub short : has Long flaws ≡ false
+      pub full : has Blank flaws ≡ false
+      pub text : has NotUtf8 flaws ≡ false
       pub begin : b ≡ length s - length left - length name
       pub end : e′ ≡ length s - length left
 
@@ -253,7 +255,7 @@ module _ (s : List ℕ) (at : ℕ) (k : Kind) (base top : ℕ) (names : List ℕ
     unfolding nameAt
     met = go (readName (drop at s)) refl (sym i ∙ e)
       where
-        by : (m : List ℕ) (fs : List Flaw) (r : List ℕ) → readName (drop at s) ≡ got m fs r → (p q o : Bool) → has long fs ≡ p → has blank fs ≡ q → has notText fs ≡ o
+        by : (m : List ℕ) (fs : List Flaw) (r : List ℕ) → readName (drop at s) ≡ got m fs r → (p q o : Bool) → has Long fs ≡ p → has Blank fs ≡ q → has NotUtf8 fs ≡ o
             → N.At b e′ ≡ cond p (N.Refused BadFrame) (cond q (N.Refused EmptyName) (cond o (N.Refused NotText) (N.At (length s - length r - length m) (length s - length r)))) → Met
         by m fs r y true q o ep eq eo h = absurd (let z : _≡_ {A = ℕ} 0 1 = cc in omega arith)
         by m fs r y false true o ep eq eo h = absurd (let z : _≡_ {A = ℕ} 0 1 = cc in omega arith)
@@ -262,7 +264,7 @@ module _ (s : List ℕ) (at : ℕ) (k : Kind) (base top : ℕ) (names : List ℕ
 
         go : (o : Out (List ℕ)) → readName (drop at s) ≡ o → N.At b e′ ≡ nameBy (length s) o → Met
         go (fault j) y h = absurd (let z : _≡_ {A = ℕ} 0 1 = cc in omega arith)
-        go (got m fs r) y h = by m fs r y (has long fs) (has blank fs) (has notText fs) refl refl refl h
+        go (got m fs r) y h = by m fs r y (has Long fs) (has Blank fs) (has NotUtf8 fs) refl refl refl h
 
     clean : (m : Met) → (drop at s ≡ withSize (m .name) ++ m .left) × (isEmpty (m .name) ≡ false)
     clean m =

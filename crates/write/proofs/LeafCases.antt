@@ -20,21 +20,24 @@ use Rattle.format.specs.declared.Kind.{Kind}
 use Rattle.format.specs.declared.Kind.the-variants.{Float32, Float64}
 use Rattle.format.specs.declared.Known.the-variants.{Is}
 use Rattle.format.specs.declared.Form.{Form}
-use Rattle.head.specs.declared.Modes.{Modes}
-use Rattle.head.specs.declared.Faults.{Faults}
+use Rattle.faults.specs.declared.Modes.{Modes}
+use Rattle.faults.specs.declared.Faults.{Faults}
 use Rattle.format.specs.declared.Stop.{Stop}
 use Rattle.format.specs.declared.Stop.the-variants.{Early}
 use Rattle.head.specs.declared.Heading.{Heading}
 use Rattle.head.specs.declared.Heading.the-variants as H
 use Rattle.frames.specs.declared.Refusal.the-variants.{BadFrame, NotText}
 use Rattle.format.specs.Kinds.{id, known}
-use Rattle.format.specs.Parse.{Flaw, long, low, wide, notText, Out, fault, got, bind, raise, make, fixed}
+use Rattle.format.specs.declared.Flaw.{Flaw}
+use Rattle.format.specs.declared.Flaw.the-variants.{Long, Low, Wide, NotUtf8}
+use Rattle.format.specs.Parse.{Out, fault, got, bind, raise, make, fixed}
 use Rattle.format.specs.Mask.{has}
 use Rattle.format.specs.Tree.{number, nan64, Leaf, float}
 use Rattle.format.specs.Payload.{float64, readFloat64, Payload, leaf, fields, sharedFields, items, sharedItems, payload, value, head}
 use Rattle.format.specs.Encoding.{floatKind, floatPayload, leafKind, leafPayload}
 use Rattle.frames.specs.WriteList.{leafFound}
-use Rattle.head.specs.Code.{noted, flawIf, answerOf, headingOf, headAt}
+use Rattle.faults.specs.Noted.{noted, flawIf, nothing, isNoted}
+use Rattle.head.specs.Code.{answerOf, headingOf, headAt}
 use Rattle.head.specs.Pieces.{between}
 use Rattle.format.proofs.Lists.{append-nil, bytes-right}
 use Rattle.format.proofs.Local.{with-put}
@@ -44,8 +47,8 @@ use Rattle.format.proofs.Leaves.{OnlyBy, leaf-only}
 use Rattle.head.proofs.MeetCases.{rest-all}
 use Rattle.write.specs.declared.LeafFrame.{LeafFrame}
 use Rattle.write.specs.declared.LeafFrame.the-variants as L
-use Rattle.write.specs.Frames.{noFaults, allModes, isLong, isLow, isNotText, isWide, leafMet, leafFrameAt, IsLeaf}
-use Rattle.write.proofs.FaultCases.{long-of, low-of, not-text-of, wide-of}
+use Rattle.write.specs.Frames.{allModes, leafMet, leafFrameAt, IsLeaf}
+use Rattle.write.proofs.FaultCases.{told}
 use Rattle.write.proofs.Flaws.{untrue, leaf-clean}
 
 -- ---- a Float64
@@ -69,7 +72,7 @@ bitsOf s = fromBytes (take 8 s)
 
 pub record Double (s : List ℕ) (v : Leaf) (fs : List Flaw) (r : List ℕ) : Type 0 where
   pub enough : 8 ≤ length s
-  pub flaws : fs ≡ flawIf (holds (bitsOf s)) wide
+  pub flaws : fs ≡ flawIf (holds (bitsOf s)) Wide
   pub left : r ≡ drop 8 s
   pub kind : leafKind v ≡ cond (holds (bitsOf s)) Float32 Float64
   pub bytes : leafPayload v ≡ cond (holds (bitsOf s)) (toBytes 4 (narrow (bitsOf s))) (take 8 s)
@@ -78,19 +81,19 @@ double-got : (s : List ℕ) → Bytes s → {v : Leaf} {fs : List Flaw} {r : Lis
 unfolding fixed
 double-got s w {v} {fs} {r} h = go (ltb (length s) 8) refl h
   where
-    by : 8 ≤ length s → (x : Bool) → holds (bitsOf s) ≡ x → raise x wide (got (float (float64 (bitsOf s))) [] (drop 8 s)) ≡ got v fs r → Double s v fs r
+    by : 8 ≤ length s → (x : Bool) → holds (bitsOf s) ≡ x → raise x Wide (got (float (float64 (bitsOf s))) [] (drop 8 s)) ≡ got v fs r → Double s v fs r
     by l x ex h =
         let c : length (take 8 s) ≡ 8 = length-take-le 8 s l in
         let b : toBytes 8 (bitsOf s) ≡ take 8 s = rw c at (to-from (take 8 s) (bytes-take 8 s w)) in
         made x ex h b
       where
-        made : (x : Bool) → holds (bitsOf s) ≡ x → raise x wide (got (float (float64 (bitsOf s))) [] (drop 8 s)) ≡ got v fs r → toBytes 8 (bitsOf s) ≡ take 8 s → Double s v fs r
+        made : (x : Bool) → holds (bitsOf s) ≡ x → raise x Wide (got (float (float64 (bitsOf s))) [] (drop 8 s)) ≡ got v fs r → toBytes 8 (bitsOf s) ≡ take 8 s → Double s v fs r
         made true ex h b = let z : float (float64 (bitsOf s)) ≡ v = cc in
             record { enough = l; flaws = rw ex (cc); left = cc; kind = rw (← z) (double-kind (bitsOf s)); bytes = ap leafPayload (sym z) ∙ double-payload (bitsOf s) ∙ ap (λ t. cond (holds (bitsOf s)) (toBytes 4 (narrow (bitsOf s))) t) b }
         made false ex h b = let z : float (float64 (bitsOf s)) ≡ v = cc in
             record { enough = l; flaws = rw ex (cc); left = cc; kind = rw (← z) (double-kind (bitsOf s)); bytes = ap leafPayload (sym z) ∙ double-payload (bitsOf s) ∙ ap (λ t. cond (holds (bitsOf s)) (toBytes 4 (narrow (bitsOf s))) t) b }
 
-    go : (x : Bool) → ltb (length s) 8 ≡ x → (bind (cond x (fault Early) (got (take 8 s) [] (drop 8 s))) λ b r. raise (holds (fromBytes b)) wide (got (float (float64 (fromBytes b))) [] r)) ≡ got v fs r → Double s v fs r
+    go : (x : Bool) → ltb (length s) 8 ≡ x → (bind (cond x (fault Early) (got (take 8 s) [] (drop 8 s))) λ b r. raise (holds (fromBytes b)) Wide (got (float (float64 (fromBytes b))) [] r)) ≡ got v fs r → Double s v fs r
     go true e h = absurd (let z : _≡_ {A = ℕ} 0 1 = cc in omega arith)
     go false e h = by (ltb-false (length s) 8 e) (holds (bitsOf s)) refl h
 
@@ -101,7 +104,7 @@ unfolding known
 kind-double k e = let z : known 11 ≡ Is k = rw e at (known-rt k) in cc
 
 module _ (k : Kind) (p : List ℕ → Out Leaf) (e : payload k ≡ leaf p) (s : List ℕ) (w : Bytes s) {v : Leaf} {fs : List Flaw} {r : List ℕ} (h : p s ≡ got v fs r) where
-  pub leaf-got : {X : Type 0} → has long fs ≡ false → has low fs ≡ false → has notText fs ≡ false
+  pub leaf-got : {X : Type 0} → has Long fs ≡ false → has Low fs ≡ false → has NotUtf8 fs ≡ false
       → ((id k ≡ 11 → ⊥) → fs ≡ [] → s ≡ leafPayload v ++ r → leafKind v ≡ k → X) → (k ≡ Float64 → Double s v fs r → X) → X
   unfolding payload
   leaf-got {X} a b c f g = go (eqb (id k) 11) refl
@@ -153,7 +156,7 @@ leaf-left k p e s {v} {fs} {r} h =
 
 -- ---- the returns
 
-module _ (s : List ℕ) (at : ℕ) (l : at ≤ length s) (w : Bytes s) (k : Kind) (il : IsLeaf (payload k)) (m : Modes) (em : m ≡ allModes) (g : Faults) (eg : g ≡ noFaults) (x : Heading)
+module _ (s : List ℕ) (at : ℕ) (l : at ≤ length s) (w : Bytes s) (k : Kind) (il : IsLeaf (payload k)) (m : Modes) (em : m ≡ allModes) (g : Faults) (eg : g ≡ nothing) (x : Heading)
     (e : x ≡ headAt k m g (between at (length s) s)) where
   here : {X : Type 0} → ((p : List ℕ → Out Leaf) → payload k ≡ leaf p → x ≡ headingLeaf m g (length (drop at s)) (p (drop at s)) → X) → X
   here c = leaf-of k il λ p ep. c p ep (e ∙ ap (λ t. headAt k m g t) (rest-all at s) ∙ heading-leaf k p ep m g (drop at s))
@@ -184,7 +187,7 @@ module _ (s : List ℕ) (at : ℕ) (l : at ≤ length s) (w : Bytes s) (k : Kind
       go (got t fs r) h = absurd (let z : _≡_ {A = ℕ} 0 1 = cc in omega arith)
 
   module _ (b : ℕ) (h : Faults) (i : x ≡ H.Leaf b h) where
-    read-case : {X : Type 0} → ((p : List ℕ → Out Leaf) (v : Leaf) (fs : List Flaw) (r : List ℕ) → payload k ≡ leaf p → p (drop at s) ≡ got v fs r → b ≡ length (drop at s) - length r → h ≡ noted allModes noFaults fs → X) → X
+    read-case : {X : Type 0} → ((p : List ℕ → Out Leaf) (v : Leaf) (fs : List Flaw) (r : List ℕ) → payload k ≡ leaf p → p (drop at s) ≡ got v fs r → b ≡ length (drop at s) - length r → h ≡ noted allModes nothing fs → X) → X
     read-case {X} c = here λ p ep z. go p ep (p (drop at s)) refl (sym i ∙ z)
       where
         go : (p : List ℕ → Out Leaf) → payload k ≡ leaf p → (o : Out Leaf) → p (drop at s) ≡ o → H.Leaf b h ≡ headingLeaf m g (length (drop at s)) o → X
@@ -197,41 +200,41 @@ module _ (s : List ℕ) (at : ℕ) (l : at ≤ length s) (w : Bytes s) (k : Kind
     pub leaf-fits : length s ≤ 65536 → Fits w64 (at + b)
     leaf-fits short = record { fits = omega (arith, leaf-inside) }
 
-    module _ (t : Bool) (et : t ≡ isLong h) where
+    module _ (t : Bool) (et : t ≡ isNoted Long h) where
       pub leaf-long : t ≡ true → L.Refused BadFrame ≡ leafFrameAt k s at
-      leaf-long j = read-case λ p v fs r ep er eb eh. let z : has long fs ≡ true = long-of h fs t _ eh et j in rw (answer-is p ep, er, z)
+      leaf-long j = read-case λ p v fs r ep er eb eh. let z : has Long fs ≡ true = told Long h fs t _ eh et j in rw (answer-is p ep, er, z)
 
-      module _ (jt : t ≡ false) (u : Bool) (eu : u ≡ isLow h) where
+      module _ (jt : t ≡ false) (u : Bool) (eu : u ≡ isNoted Low h) where
         pub leaf-low : u ≡ true → L.Refused BadFrame ≡ leafFrameAt k s at
-        leaf-low j = read-case λ p v fs r ep er eb eh. let z : has long fs ≡ false = long-of h fs t _ eh et jt in let y : has low fs ≡ true = low-of h fs u _ eh eu j in rw (answer-is p ep, er, z, y)
+        leaf-low j = read-case λ p v fs r ep er eb eh. let z : has Long fs ≡ false = told Long h fs t _ eh et jt in let y : has Low fs ≡ true = told Low h fs u _ eh eu j in rw (answer-is p ep, er, z, y)
 
-        module _ (ju : u ≡ false) (o : Bool) (eo : o ≡ isNotText h) where
+        module _ (ju : u ≡ false) (o : Bool) (eo : o ≡ isNoted NotUtf8 h) where
           pub leaf-not-text : o ≡ true → L.Refused NotText ≡ leafFrameAt k s at
           leaf-not-text j = read-case λ p v fs r ep er eb eh.
-              let z : has long fs ≡ false = long-of h fs t _ eh et jt in let y : has low fs ≡ false = low-of h fs u _ eh eu ju in let x : has notText fs ≡ true = not-text-of h fs o _ eh eo j in rw (answer-is p ep, er, z, y, x)
+              let z : has Long fs ≡ false = told Long h fs t _ eh et jt in let y : has Low fs ≡ false = told Low h fs u _ eh eu ju in let x : has NotUtf8 fs ≡ true = told NotUtf8 h fs o _ eh eo j in rw (answer-is p ep, er, z, y, x)
 
-          module _ (jo : o ≡ false) (f : Bool) (ef : f ≡ isWide h) where
+          module _ (jo : o ≡ false) (f : Bool) (ef : f ≡ isNoted Wide h) where
             -- the frame is good
             good : {X : Type 0} → ((v : Leaf) (fs : List Flaw) (r : List ℕ) → leafFrameAt k s at ≡ L.Read (length s - length r) (id (leafKind v)) (length (leafPayload v)) → at + b ≡ length s - length r
-                → b ≡ length (drop at s) - length r → has wide fs ≡ f
+                → b ≡ length (drop at s) - length r → has Wide fs ≡ f
                 → ((fs ≡ [] → drop at s ≡ leafPayload v ++ r → leafKind v ≡ k → X) → (k ≡ Float64 → Double (drop at s) v fs r → X) → X) → X) → X
             good c = read-case λ p v fs r ep er eb eh.
-                let z : has long fs ≡ false = long-of h fs t _ eh et jt in let y : has low fs ≡ false = low-of h fs u _ eh eu ju in let x : has notText fs ≡ false = not-text-of h fs o _ eh eo jo in
+                let z : has Long fs ≡ false = told Long h fs t _ eh et jt in let y : has Low fs ≡ false = told Low h fs u _ eh eu ju in let x : has NotUtf8 fs ≡ false = told NotUtf8 h fs o _ eh eo jo in
                 let d = length-drop at s in
                 let q = leaf-left k p ep (drop at s) er in
                 let n : length (drop at s) ≡ length (q .0) + length r = simp length-append at (ap length (q .1)) in
-                c v fs r (answer-is p ep ∙ rw (er, z, y, x)) (omega arith) eb (wide-of h fs f f eh ef refl)
+                c v fs r (answer-is p ep ∙ rw (er, z, y, x)) (omega arith) eb (told Wide h fs f f eh ef refl)
                 (λ a1 a2. leaf-got k p ep (drop at s) (bytes-right s (take at s) (drop at s) w (sym (take-append-drop at s))) er z y x (λ ne. a1) a2)
 
             pub leaf-wide : f ≡ true → L.Read (at + b) 10 4 ≡ leafFrameAt k s at
             leaf-wide j = good λ v fs r ea en eb ew c. c
-                (λ ef′ es ek. untrue (let z : has wide fs ≡ false = rw ef′ in sym z ∙ ew ∙ j))
+                (λ ef′ es ek. untrue (let z : has Wide fs ≡ false = rw ef′ in sym z ∙ ew ∙ j))
                 (λ ek d. let z : holds (bitsOf (drop at s)) ≡ true = go (holds (bitsOf (drop at s))) (rw (d .flaws) at (ew ∙ j)) in
                 let i : leafKind v ≡ Float32 = rw z at (d .kind) in
                 let y : leafPayload v ≡ toBytes 4 (narrow (bitsOf (drop at s))) = rw z at (d .bytes) in
                 rw (ea, i, y, to-length 4 (narrow (bitsOf (drop at s))), en))
               where
-                go : (x : Bool) → has wide (flawIf x wide) ≡ true → x ≡ true
+                go : (x : Bool) → has Wide (flawIf x Wide) ≡ true → x ≡ true
                 go true h = refl
                 go false h = untrue h
 
@@ -246,6 +249,6 @@ module _ (s : List ℕ) (at : ℕ) (l : at ≤ length s) (w : Bytes s) (k : Kind
                 let q : b ≡ 8 = omega (arith, d .enough) in
                 rw (ea, i, en, en′, ek, t, q))
               where
-                go : (x : Bool) → has wide (flawIf x wide) ≡ false → x ≡ false
+                go : (x : Bool) → has Wide (flawIf x Wide) ≡ false → x ≡ false
                 go true h = untrue (sym h)
                 go false h = refl

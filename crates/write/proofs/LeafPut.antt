@@ -17,9 +17,11 @@ use Rattle.float.specs.declared.Narrowed.the-variants as N
 use Rattle.format.specs.declared.Kind.{Kind}
 use Rattle.format.specs.declared.Known.{Known}
 use Rattle.format.specs.declared.Known.the-variants.{Unknown, Is}
+use Rattle.faults.specs.Noted.{nothing}
 use Rattle.head.specs.Code.{headAt}
 use Rattle.format.specs.Kinds.{id, known}
-use Rattle.format.specs.Parse.{Flaw, Out}
+use Rattle.format.specs.declared.Flaw.{Flaw}
+use Rattle.format.specs.Parse.{Out}
 use Rattle.format.specs.Payload.{Payload, leaf, fields, sharedFields, items, sharedItems, payload}
 use Rattle.format.specs.Tree.{Leaf}
 use Rattle.format.specs.Encoding.{leafPayload}
@@ -27,7 +29,7 @@ use Rattle.head.specs.Pieces.{between}
 use Rattle.frames.specs.WriteList.{Frames, framed, leafFound}
 use Rattle.format.proofs.KindLaws.{known-inv}
 use Rattle.write.specs.declared.Position.{Position}
-use Rattle.write.specs.Frames.{noModes, noFaults, leafBy, leafKnown, leafOf, bitsAt, endIn, endAt}
+use Rattle.write.specs.Frames.{noModes, leafBy, leafKnown, leafOf, bitsAt, endIn, endAt}
 use Rattle.write.specs.Passes.{LeafMakes, LeafReady}
 use Rattle.write.proofs.FrameCases.{never, bytes-drop}
 use Rattle.write.proofs.LeafCases.{Double, bitsOf, leaf-got, heading-leaf}
@@ -136,8 +138,8 @@ module _ (s : List ℕ) (at b to : ℕ) (out : List ℕ) (g : LeafReady s at b t
     plain = leaf-case b (drop at s) (g .reads) λ k p ek ei ep h. leaf-found (drop at s) (p (drop at s)) h λ fs y u v w. leaf-got k p ep (drop at s) (bytes-drop s at (g .bytes)) y u v w
         (λ nk fe es ekk.
         let n : length (drop at s) ≡ length (leafPayload (g .v)) + length (g .r) = ap length es ∙ length-append (leafPayload (g .v)) (g .r) in
-        let z : endIn (headAt k noModes noFaults (drop at s)) ≡ length (drop at s) - length (g .r) = rw (heading-leaf k p ep noModes noFaults (drop at s), y) in
-        let q : end ≡ at + endIn (headAt k noModes noFaults (drop at s)) = rw ek at ee in
+        let z : endIn (headAt k noModes nothing (drop at s)) ≡ length (drop at s) - length (g .r) = rw (heading-leaf k p ep noModes nothing (drop at s), y) in
+        let q : end ≡ at + endIn (headAt k noModes nothing (drop at s)) = rw ek at ee in
         (es, omega arith))
         (λ z q. absurd (ne (ei ∙ ap id z)))
 

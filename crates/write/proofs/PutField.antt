@@ -15,7 +15,7 @@ use Rattle.format.specs.declared.Kind.{Kind}
 use Rattle.format.specs.declared.Kind.the-variants.{Float32, Float64}
 use Rattle.format.specs.Kinds.{id}
 use Rattle.format.specs.Names.{readName}
-use Rattle.format.specs.Parse.{low, Out, got}
+use Rattle.format.specs.Parse.{Out, got}
 use Rattle.format.specs.Payload.{leaf, fields, items, payload}
 use Rattle.format.specs.Tree.{Leaf, atom, Tree}
 use Rattle.format.specs.Encoding.{withSize, concat, kindOf, payloadOf, sizesOf}

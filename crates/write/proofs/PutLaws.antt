@@ -27,8 +27,8 @@ use Rattle.format.specs.declared.Known.{Known}
 use Rattle.format.specs.declared.Known.the-variants.{Unknown, Is}
 use Rattle.format.specs.declared.Form.{Form}
 use Rattle.format.specs.declared.Form.the-variants.{SharedField}
-use Rattle.head.specs.declared.Modes.{Modes}
-use Rattle.head.specs.declared.Faults.{Faults}
+use Rattle.faults.specs.declared.Modes.{Modes}
+use Rattle.faults.specs.declared.Faults.{Faults}
 use Rattle.format.specs.declared.Stop.{Stop}
 use Rattle.head.specs.declared.Front.{Front}
 use Rattle.head.specs.declared.Front.the-variants as F
@@ -38,11 +38,12 @@ use Rattle.format.specs.Kinds.{known}
 use Rattle.format.specs.Parse.{Out, fault, got}
 use Rattle.format.specs.Names.{readName}
 use Rattle.format.specs.Payload.{Head, value, fieldsIn, itemsIn, head}
+use Rattle.faults.specs.Noted.{nothing}
 use Rattle.head.specs.Code.{answerOf, headingOf, frontAt, headAt}
 use Rattle.head.specs.Pieces.{between}
 use Rattle.head.proofs.MeetCases.{rest-all}
 use Rattle.write.specs.Container.{containerId, countPart, typePart}
-use Rattle.write.specs.Frames.{noFaults, noModes, startBy, startAt, bitsAt, finalId, endIn, endAt}
+use Rattle.write.specs.Frames.{noModes, startBy, startAt, bitsAt, finalId, endIn, endAt}
 use Rattle.write.proofs.NameCases.{frontNamed, front-named, name-parts}
 use Rattle.write.proofs.LoopLaws.{sets-append}
 
@@ -240,10 +241,10 @@ module _ (s : List ℕ) (at : ℕ) (l : at ≤ length s) (b : ℕ) (o : Known) (
   unfolding endAt
   end-unknown i = let z : known b ≡ Unknown = sym e ∙ i in rw z
 
-  module _ (k : Kind) (i : o ≡ Is k) (m : Modes) (em : m ≡ noModes) (g : Faults) (eg : g ≡ noFaults) (x : Heading) (ex : x ≡ headAt k m g (between at (length s) s)) where
+  module _ (k : Kind) (i : o ≡ Is k) (m : Modes) (em : m ≡ noModes) (g : Faults) (eg : g ≡ nothing) (x : Heading) (ex : x ≡ headAt k m g (between at (length s) s)) where
     end-is : at + endIn x ≡ endAt s at b
     unfolding endAt
-    end-is = let z : known b ≡ Is k = sym e ∙ i in let y : x ≡ headAt k noModes noFaults (drop at s) = rw (em, eg, rest-all at s) at ex in rw (z, y)
+    end-is = let z : known b ≡ Is k = sym e ∙ i in let y : x ≡ headAt k noModes nothing (drop at s) = rw (em, eg, rest-all at s) at ex in rw (z, y)
 
     pub end-stop : (j : Stop) → x ≡ H.Stop j → at ≡ endAt s at b
     end-stop j q = let z : at + 0 ≡ endAt s at b = rw q at end-is in rw add-zero at z

@@ -19,7 +19,9 @@ use Rattle.format.specs.declared.Known.the-variants.{Is}
 use Rattle.frames.specs.declared.Refusal.the-variants.{BadFrame, NotText}
 use Rattle.format.specs.Kinds.{id, known}
 use Rattle.format.specs.Mask.{has}
-use Rattle.format.specs.Parse.{Flaw, long, low, notText, Out, fault, got}
+use Rattle.format.specs.declared.Flaw.{Flaw}
+use Rattle.format.specs.declared.Flaw.the-variants.{Long, Low, NotUtf8}
+use Rattle.format.specs.Parse.{Out, fault, got}
 use Rattle.format.specs.Payload.{Payload, leaf, fields, sharedFields, items, sharedItems, payload}
 use Rattle.format.specs.Tree.{Leaf, Node, atom}
 use Rattle.format.specs.Encoding.{concat, leafPayload, nodeKind, nodePayload, kindOf, payloadOf}
@@ -36,10 +38,10 @@ use Rattle.write.proofs.ContainerLaws.{node-packs, plain, body-length, 
 -- ---- a leaf that was found
 
 module _ (f : List ℕ) (o : Out Leaf) {v : Leaf} {r : List ℕ} (h : leafFound f o ≡ framed v r) where
-  pub leaf-found : {X : Type 0} → ((fs : List Flaw) → o ≡ got v fs r → has long fs ≡ false → has low fs ≡ false → has notText fs ≡ false → X) → X
+  pub leaf-found : {X : Type 0} → ((fs : List Flaw) → o ≡ got v fs r → has Long fs ≡ false → has Low fs ≡ false → has NotUtf8 fs ≡ false → X) → X
   leaf-found {X} c = go o refl h
     where
-      by : (u : Leaf) (fs : List Flaw) (q : List ℕ) → o ≡ got u fs q → (a b d : Bool) → has long fs ≡ a → has low fs ≡ b → has notText fs ≡ d
+      by : (u : Leaf) (fs : List Flaw) (q : List ℕ) → o ≡ got u fs q → (a b d : Bool) → has Long fs ≡ a → has Low fs ≡ b → has NotUtf8 fs ≡ d
           → cond (a || b) (refused BadFrame f) (cond d (refused NotText f) (framed u q)) ≡ framed v r → X
       by u fs q e true b d ea eb ed h = never h
       by u fs q e false true d ea eb ed h = never h
@@ -48,7 +50,7 @@ module _ (f : List ℕ) (o : Out Leaf) {v : Leaf} {r : List ℕ} (h : leafFound 
 
       go : (p : Out Leaf) → o ≡ p → leafFound f p ≡ framed v r → X
       go (fault k) e h = never h
-      go (got u fs q) e h = by u fs q e (has long fs) (has low fs) (has notText fs) refl refl refl h
+      go (got u fs q) e h = by u fs q e (has Long fs) (has Low fs) (has NotUtf8 fs) refl refl refl h
 
 -- its payload is no longer than what stands in the list
 pub leaf-short : (k : Kind) (p : List ℕ → Out Leaf) → payload k ≡ leaf p → (f s : List ℕ) → Bytes s → {v : Leaf} {r : List ℕ} → leafFound f (p s) ≡ framed v r

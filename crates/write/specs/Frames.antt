@@ -9,17 +9,18 @@ use lib.Dec.{eqb, ltb}
 use Rattle.format.specs.declared.Kind.{Kind}
 use Rattle.format.specs.declared.Known.{Known}
 use Rattle.format.specs.declared.Known.the-variants.{Unknown, Is}
-use Rattle.head.specs.declared.Modes.{Modes}
-use Rattle.head.specs.declared.Faults.{Faults}
+use Rattle.faults.specs.declared.Modes.{Modes}
 use Rattle.frames.specs.declared.Refusal.the-variants.{BadFrame, EmptyName, NotText}
 use Rattle.head.specs.declared.Heading.{Heading}
 use Rattle.head.specs.declared.Heading.the-variants as H
 use Rattle.number.specs.BigEndian.{fromBytes}
 use Rattle.float.specs.Rule.{holds}
-use Rattle.head.specs.Code.{nothing, isNoted, headAt}
+use Rattle.faults.specs.Noted.{nothing}
+use Rattle.head.specs.Code.{headAt}
 use Rattle.format.specs.Kinds.{id, known}
 use Rattle.format.specs.Mask.{has}
-use Rattle.format.specs.Parse.{Out, fault, got, blank, long, low, wide, notText}
+use Rattle.format.specs.declared.Flaw.the-variants.{Blank, Long, NotUtf8}
+use Rattle.format.specs.Parse.{Out, fault, got}
 use Rattle.format.specs.Names.{readName}
 use Rattle.format.specs.Payload.{Payload, leaf, fields, sharedFields, items, sharedItems, payload}
 use Rattle.format.specs.Tree.{Leaf, Node}
@@ -33,31 +34,13 @@ use Rattle.write.specs.declared.LeafFrame.{LeafFrame}
 use Rattle.write.specs.declared.LeafFrame.the-variants as L
 use Rattle.write.specs.Container.{nodeOf, containerId, uniformIn}
 
--- ---- the faults that format keeps
-
-abbrev pub noFaults : Faults
-noFaults = nothing
+-- ---- what the reading of a leaf or a name is asked for
 
 abbrev pub allModes : Modes
 allModes = record { names = true; format = true }
 
 abbrev pub noModes : Modes
 noModes = record { names = false; format = false }
-
-abbrev pub isLong : Faults → Bool
-isLong g = isNoted long g
-
-abbrev pub isLow : Faults → Bool
-isLow g = isNoted low g
-
-abbrev pub isBlank : Faults → Bool
-isBlank g = isNoted blank g
-
-abbrev pub isNotText : Faults → Bool
-isNotText g = isNoted notText g
-
-abbrev pub isWide : Faults → Bool
-isWide g = isNoted wide g
 
 -- ---- a frame's kind
 
@@ -70,9 +53,9 @@ writable b = cond (eqb b 3) Unknown (cond (eqb b 5) Unknown (known b))
 abbrev pub nameBy : ℕ → Out (List ℕ) → Name
 nameBy total (fault k) = N.Refused BadFrame
 nameBy total (got n fs r) =
-    cond (has long fs) (N.Refused BadFrame)
-    (cond (has blank fs) (N.Refused EmptyName)
-    (cond (has notText fs) (N.Refused NotText)
+    cond (has Long fs) (N.Refused BadFrame)
+    (cond (has Blank fs) (N.Refused EmptyName)
+    (cond (has NotUtf8 fs) (N.Refused NotText)
     (N.At (total - length r - length n) (total - length r))))
 
 -- the name whose length stands at a position
@@ -193,7 +176,7 @@ endIn (H.Items f n a e g) = 0
 
 abbrev pub endKnown : Known → List ℕ → ℕ → ℕ
 endKnown Unknown s at = at
-endKnown (Is k) s at = at + endIn (headAt k noModes noFaults (drop at s))
+endKnown (Is k) s at = at + endIn (headAt k noModes nothing (drop at s))
 
 unfoldable pub endAt : List ℕ → ℕ → ℕ → ℕ
 endAt s at b = endKnown (known b) s at

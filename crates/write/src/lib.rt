@@ -1,13 +1,13 @@
 // The writer ("The write list"). The first pass checks every frame and settles the containers' sizes and all IDs: it cannot reach the output. The
 // second pass cannot fail: it writes the encoding from front to back, by the numbers that the first one left.
+use faults::Modes;
+use format::Flaw;
 use format::Kind;
 use format::Known;
 use frames::Refusal;
 use frames::Written;
-use head::Faults;
 use head::Front;
 use head::Heading;
-use head::Modes;
 ghost use mathlib.Core.Path.{_≡_};
 ghost use mathlib.Core.List.{_++_};
 ghost use Prim.Native.Nat.{_+_, _-_, _*_, _≤_, _<_};
@@ -21,17 +21,11 @@ ghost use Rattle.format.specs.Payload.{payload};
 ghost use Rattle.head.specs.Pieces.{between};
 ghost use Rattle.frames.specs.Writer.{written, refusalNumber};
 ghost use Rattle.write.specs.Container.{join, uniform, countPart, containerId, sizeBy, packed, typePart};
-ghost use Rattle.write.specs.Frames.{noFaults, allModes, noModes, isLong, isLow, isBlank, isNotText, isWide, writable, nameAt, usedAt, Stack, NamedAt, FrameAt, IsLeaf, leafFrameAt, startAt, bitsAt, finalId, endAt};
+ghost use Rattle.write.specs.Frames.{allModes, noModes, writable, nameAt, usedAt, Stack, NamedAt, FrameAt, IsLeaf, leafFrameAt, startAt, bitsAt, finalId, endAt};
 ghost use Rattle.write.specs.Passes.{leafMeasured, LeafSmall, FieldAt, ContentsAt, Lent, LeafReady, LeafMakes, CanOpen, HasOpened, FieldReady, FieldMakes, ContentsReady, ContentsMakes};
 ghost use Rattle.write.specs.Whole.{cleared, result, decidedOf, idIn, writtenWithin};
 
 // ---- what format's reading of a leaf or a name found
-
-fn no_faults() -> Faults
-    ensures { λ r. ⌜ r ≡ noFaults ⌝ }
-{
-    head::no_faults()
-}
 
 fn all_modes() -> Modes
     ensures { λ r. ⌜ r ≡ allModes ⌝ }
@@ -49,36 +43,6 @@ fn no_modes() -> Modes
         names: false,
         format: false,
     }
-}
-
-fn is_long(faults: Faults) -> bool
-    ensures { λ r. ⌜ r ≡ isLong faults ⌝ }
-{
-    head::is_long(faults)
-}
-
-fn is_low(faults: Faults) -> bool
-    ensures { λ r. ⌜ r ≡ isLow faults ⌝ }
-{
-    head::is_low(faults)
-}
-
-fn is_blank(faults: Faults) -> bool
-    ensures { λ r. ⌜ r ≡ isBlank faults ⌝ }
-{
-    head::is_blank(faults)
-}
-
-fn is_not_text(faults: Faults) -> bool
-    ensures { λ r. ⌜ r ≡ isNotText faults ⌝ }
-{
-    head::is_not_text(faults)
-}
-
-fn is_wide(faults: Faults) -> bool
-    ensures { λ r. ⌜ r ≡ isWide faults ⌝ }
-{
-    head::is_wide(faults)
 }
 
 // ---- a frame: its kind and its name
@@ -107,7 +71,7 @@ fn name_of(list: &[u8], at: usize, kind: Kind) -> Name
     requires { ⌜ (at ≤ length (now list)) × (length (now list) ≤ 65536) ⌝ }
     ensures { λ r. ⌜ r ≡ nameAt (now (list .entry)) at ⌝ }
 {
-    match head::name_of(&list[at..], kind, all_modes(), no_faults()) {
+    match head::name_of(&list[at..], kind, all_modes(), faults::no_faults()) {
         Front::Stop(stop) => Name::Refused(Refusal::BadFrame),
         Front::Read {
             kind: _,
@@ -115,13 +79,13 @@ fn name_of(list: &[u8], at: usize, kind: Kind) -> Name
             start,
             faults,
         } => {
-            if is_long(faults) {
+            if faults::has(faults, Flaw::Long) {
                 return Name::Refused(Refusal::BadFrame);
             }
-            if is_blank(faults) {
+            if faults::has(faults, Flaw::Blank) {
                 return Name::Refused(Refusal::EmptyName);
             }
-            if is_not_text(faults) {
+            if faults::has(faults, Flaw::NotUtf8) {
                 return Name::Refused(Refusal::NotText);
             }
             Name::At {
@@ -228,19 +192,19 @@ fn leaf_at(list: &[u8], at: usize, kind: Kind) -> LeafFrame
     requires { ⌜ (at ≤ length (now list)) × (length (now list) ≤ 65536) × Bytes (now list) × IsLeaf (payload kind) ⌝ }
     ensures { λ r. ⌜ r ≡ leafFrameAt kind (now (list .entry)) at ⌝ }
 {
-    match head::head_of(&list[at..], kind, all_modes(), no_faults()) {
+    match head::head_of(&list[at..], kind, all_modes(), faults::no_faults()) {
         Heading::Stop(stop) => LeafFrame::Refused(Refusal::BadFrame),
         Heading::Leaf { end, faults } => {
-            if is_long(faults) {
+            if faults::has(faults, Flaw::Long) {
                 return LeafFrame::Refused(Refusal::BadFrame);
             }
-            if is_low(faults) {
+            if faults::has(faults, Flaw::Low) {
                 return LeafFrame::Refused(Refusal::BadFrame);
             }
-            if is_not_text(faults) {
+            if faults::has(faults, Flaw::NotUtf8) {
                 return LeafFrame::Refused(Refusal::NotText);
             }
-            if is_wide(faults) {
+            if faults::has(faults, Flaw::Wide) {
                 return LeafFrame::Read {
                     end: at + end,
                     id: 0x0a,
@@ -558,7 +522,7 @@ fn start_of(list: &[u8], at: usize, named: bool) -> usize
 {
     if named {
         let from = at + 1;
-        return match head::name_of(&list[from..], Kind::Null, no_modes(), no_faults()) {
+        return match head::name_of(&list[from..], Kind::Null, no_modes(), faults::no_faults()) {
             Front::Stop(stop) => from,
             Front::Read {
                 kind: _,
@@ -651,7 +615,7 @@ fn leaf_end(list: &[u8], at: usize, b: u8) -> usize
 {
     match format::known_of(b) {
         Known::Unknown => at,
-        Known::Is(kind) => match head::head_of(&list[at..], kind, no_modes(), no_faults()) {
+        Known::Is(kind) => match head::head_of(&list[at..], kind, no_modes(), faults::no_faults()) {
             Heading::Stop(stop) => at,
             Heading::Leaf { end, faults: _ } => at + end,
             Heading::Fields {

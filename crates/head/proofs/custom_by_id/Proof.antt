@@ -3,7 +3,7 @@ use Rattle.head.proofs.custom_by_id.Statement.{statement}
 use Rattle.head.proofs.custom_by_id.Tie as tie
 use Rattle.head.proofs.custom_by_id.Reads as reads
 use Rattle.head.proofs.custom_by_id.Lts as lts
-use Rattle.head.proofs.with_long.Reads as with-long-reads
+use Rattle.faults.proofs.note.Reads as note-reads
 use Rattle.number.proofs.read.Reads as read-reads
 use Rattle.head.proofs.HeadCases.{id-cut, id-whole}
 

@@ -4,7 +4,7 @@ use Rattle.head.proofs.float64.Tie as tie
 use Rattle.head.proofs.float64.Reads as reads
 use Rattle.head.proofs.float64.Lts as lts
 use Rattle.float.proofs.float32_holds.Reads as float32-holds-reads
-use Rattle.head.proofs.with_wide.Reads as with-wide-reads
+use Rattle.faults.proofs.note.Reads as note-reads
 use Rattle.number.proofs.read64.Reads as read64-reads
 use Rattle.head.proofs.HeadCases.{double-cut, double-whole}
 

@@ -3,7 +3,7 @@ use Rattle.head.proofs.items.Statement.{statement}
 use Rattle.head.proofs.items.Tie as tie
 use Rattle.head.proofs.items.Reads as reads
 use Rattle.head.proofs.items.Lts as lts
-use Rattle.head.proofs.with_long.Reads as with-long-reads
+use Rattle.faults.proofs.note.Reads as note-reads
 use Rattle.number.proofs.read.Reads as read-reads
 use native.Mathlib.Omega.{arith}
 use Rattle.head.proofs.HeadCases.{count-cut, count-whole, count-in}

@@ -4,7 +4,7 @@ use Rattle.head.proofs.named.Tie as tie
 use Rattle.head.proofs.named.Reads as reads
 use Rattle.head.proofs.named.Lts as lts
 use Rattle.head.proofs.text_of.Reads as text-of-reads
-use Rattle.head.proofs.with_blank.Reads as with-blank-reads
+use Rattle.faults.proofs.note.Reads as note-reads
 use native.Mathlib.Omega.{arith}
 use Rattle.head.proofs.FrontCases.{named-stop, named-read, named-start, named-end}
 

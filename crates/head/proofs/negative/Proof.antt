@@ -3,8 +3,7 @@ use Rattle.head.proofs.negative.Statement.{statement}
 use Rattle.head.proofs.negative.Tie as tie
 use Rattle.head.proofs.negative.Reads as reads
 use Rattle.head.proofs.negative.Lts as lts
-use Rattle.head.proofs.with_long.Reads as with-long-reads
-use Rattle.head.proofs.with_low.Reads as with-low-reads
+use Rattle.faults.proofs.note.Reads as note-reads
 use Rattle.number.proofs.read.Reads as read-reads
 use Rattle.head.proofs.HeadCases.{negative-cut, negative-whole}
 

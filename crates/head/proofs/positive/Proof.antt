@@ -3,7 +3,7 @@ use Rattle.head.proofs.positive.Statement.{statement}
 use Rattle.head.proofs.positive.Tie as tie
 use Rattle.head.proofs.positive.Reads as reads
 use Rattle.head.proofs.positive.Lts as lts
-use Rattle.head.proofs.with_long.Reads as with-long-reads
+use Rattle.faults.proofs.note.Reads as note-reads
 use Rattle.number.proofs.read.Reads as read-reads
 use Rattle.head.proofs.HeadCases.{positive-cut, positive-whole}
 

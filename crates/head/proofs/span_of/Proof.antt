@@ -3,7 +3,7 @@ use Rattle.head.proofs.span_of.Statement.{statement}
 use Rattle.head.proofs.span_of.Tie as tie
 use Rattle.head.proofs.span_of.Reads as reads
 use Rattle.head.proofs.span_of.Lts as lts
-use Rattle.head.proofs.with_long.Reads as with-long-reads
+use Rattle.faults.proofs.note.Reads as note-reads
 use Rattle.number.proofs.read.Reads as read-reads
 use Rattle.head.proofs.FrontCases.{span-cut, span-in, span-over, span-part}
 

@@ -4,7 +4,7 @@ use Rattle.head.proofs.text_of.Tie as tie
 use Rattle.head.proofs.text_of.Reads as reads
 use Rattle.head.proofs.text_of.Lts as lts
 use Rattle.head.proofs.span_of.Reads as span-of-reads
-use Rattle.head.proofs.with_text.Reads as with-text-reads
+use Rattle.faults.proofs.note.Reads as note-reads
 use Rattle.text.proofs.is_text.Reads as is-text-reads
 use Rattle.head.proofs.FrontCases.{text-stop, text-looked, text-passed, span-order, span-within}
 

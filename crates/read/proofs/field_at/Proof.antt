@@ -4,7 +4,7 @@ use Rattle.read.proofs.field_at.Tie as tie
 use Rattle.read.proofs.field_at.Reads as reads
 use Rattle.read.proofs.field_at.Lts as lts
 use Rattle.head.proofs.meet_of.Reads as meet-of-reads
-use Rattle.head.proofs.no_faults.Reads as no-faults-reads
+use Rattle.faults.proofs.no_faults.Reads as no-faults-reads
 use Rattle.read.proofs.field_of.Reads as field-of-reads
 use borrow.Author.Needs.{needs}
 use native.Mathlib.Omega.{arith}

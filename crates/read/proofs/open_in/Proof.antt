@@ -4,7 +4,7 @@ use Rattle.read.proofs.open_in.Tie as tie
 use Rattle.read.proofs.open_in.Reads as reads
 use Rattle.read.proofs.open_in.Lts as lts
 use Rattle.head.proofs.head_of.Reads as head-of-reads
-use Rattle.head.proofs.no_faults.Reads as no-faults-reads
+use Rattle.faults.proofs.no_faults.Reads as no-faults-reads
 use Rattle.read.proofs.OpenLaws.{open-stop, leaf-early, leaf-whole, fields-early, fields-whole, items-early, items-whole}
 use borrow.Author.Needs.{needs}
 use native.Mathlib.Omega.{arith}

@@ -1,0 +1,3 @@
+pub mod NotedLaws
+pub mod SumLaws
+pub mod OneAnswer
