@@ -1,6 +1,8 @@
 //! The reading calls as one would write them in Rust without further thought: slices that get shorter, a `Result` with the
 //! answer's number for a refusal. Every call checks its place, as the library's do.
 
+use crate::parts::{fixed, is_bare, is_known, Form, Reader};
+
 /// What the calls answer where they meet no fault; the numbers are the library's.
 pub const NO_MORE: u32 = 3;
 pub const NOT_THERE: u32 = 5;
@@ -15,19 +17,6 @@ pub struct Place {
     pub depth: u32,
 }
 
-/// A part of the payload that is read from the front. Where that is, the end of the part says, and what is left of it.
-#[derive(Clone, Copy)]
-struct Reader<'a> {
-    rest: &'a [u8],
-}
-
-/// What precedes the payload of a field or item.
-#[derive(Clone, Copy)]
-enum Form {
-    Typed { flags: u8, named: bool },
-    Shared { id: u8, named: bool },
-}
-
 /// A payload that was read up to its contents.
 enum Opened<'a> {
     /// The bytes of a kind that always has the same number of them.
@@ -39,115 +28,61 @@ enum Opened<'a> {
     Container(Reader<'a>, Form),
 }
 
-impl<'a> Reader<'a> {
-    fn byte(&mut self) -> Result<u8, u32> {
-        let (first, rest) = self.rest.split_first().ok_or(1_u32)?;
-        self.rest = rest;
-        Ok(*first)
+/// The payload of a known kind, up to its contents.
+fn payload_of<'a>(reader: &mut Reader<'a>, kind: u8) -> Result<Opened<'a>, u32> {
+    if let Some(length) = fixed(kind) {
+        return Ok(Opened::Fixed(reader.take(length)?));
     }
-
-    fn take(&mut self, count: u64) -> Result<&'a [u8], u32> {
-        if count > self.rest.len() as u64 {
-            return Err(1);
-        }
-        let (part, rest) = self.rest.split_at(count as usize);
-        self.rest = rest;
-        Ok(part)
+    if matches!(kind, 0x08 | 0x09) {
+        return Ok(Opened::Integer(reader.number()?.0));
     }
-
-    fn number(&mut self) -> Result<u64, u32> {
-        let first = self.byte()?;
-        let others = first.leading_ones();
-        if others == 0 {
-            return Ok(first.into());
+    let (size, _) = reader.number()?;
+    let mut part = Reader { rest: reader.take(size)? };
+    match kind {
+        0x02 => Ok(Opened::Container(part, Form::Typed { flags: 0xC0, named: true })),
+        0x03 => {
+            let id = part.shared()?;
+            if part.rest.is_empty() {
+                return Err(2048);
+            }
+            Ok(Opened::Container(part, Form::Shared { id, named: true }))
         }
-        let bytes = self.take(others.into())?;
-        let start = if others >= 7 { 0 } else { u64::from(first) & (0x7F >> others) };
-        Ok(bytes.iter().fold(start, |value, byte| value << 8 | u64::from(*byte)))
-    }
-
-    fn shared(&mut self) -> Result<u8, u32> {
-        let id = self.byte()?;
-        if is_known(id) {
-            Ok(id)
-        } else {
-            Err(2)
+        0x04 => {
+            part.number()?;
+            Ok(Opened::Container(part, Form::Typed { flags: 0x40, named: false }))
         }
-    }
-
-    /// The payload of a known kind, up to its contents.
-    fn payload(&mut self, kind: u8) -> Result<Opened<'a>, u32> {
-        match kind {
-            0x01 | 0x0C | 0x0D => return Ok(Opened::Fixed(&[])),
-            0x0A => return Ok(Opened::Fixed(self.take(4)?)),
-            0x0B | 0x12 | 0x13 => return Ok(Opened::Fixed(self.take(8)?)),
-            0x0E..=0x10 => return Ok(Opened::Fixed(self.take(20)?)),
-            0x11 => return Ok(Opened::Fixed(self.take(16)?)),
-            0x14 => return Ok(Opened::Fixed(self.take(12)?)),
-            0x08 | 0x09 => return Ok(Opened::Integer(self.number()?)),
-            _ => {}
+        0x05 => {
+            let (count, _) = part.number()?;
+            let id = part.shared()?;
+            if count == 0 || is_bare(id) {
+                return Err(2048);
+            }
+            Ok(Opened::Container(part, Form::Shared { id, named: false }))
         }
-        let size = self.number()?;
-        let mut part = Reader { rest: self.take(size)? };
-        match kind {
-            0x02 => Ok(Opened::Container(part, Form::Typed { flags: 0xC0, named: true })),
-            0x03 => {
-                let id = part.shared()?;
-                if part.rest.is_empty() {
-                    return Err(2048);
-                }
-                Ok(Opened::Container(part, Form::Shared { id, named: true }))
-            }
-            0x04 => {
-                part.number()?;
-                Ok(Opened::Container(part, Form::Typed { flags: 0x40, named: false }))
-            }
-            0x05 => {
-                let count = part.number()?;
-                let id = part.shared()?;
-                if count == 0 || matches!(id, 0x01 | 0x0C | 0x0D) {
-                    return Err(2048);
-                }
-                Ok(Opened::Container(part, Form::Shared { id, named: false }))
-            }
-            0x1E => {
-                part.number()?;
-                Ok(Opened::Sized)
-            }
-            0x1F => {
-                let length = part.number()?;
-                part.take(length)?;
-                Ok(Opened::Sized)
-            }
-            _ => Ok(Opened::Sized),
+        0x1E => {
+            part.number()?;
+            Ok(Opened::Sized)
         }
-    }
-
-    /// A field or item up to its contents, in a part that ends there: its place, its name, and where that begins.
-    fn field(&mut self, form: Form, depth: u32, end: usize) -> Result<(Place, &'a [u8], usize), u32> {
-        let (kind, named) = match form {
-            Form::Shared { id, named } => (id, named),
-            Form::Typed { flags, named } => {
-                let byte = self.byte()?;
-                if byte & 0xC0 != flags || !is_known(byte & 0x3F) {
-                    return Err(2);
-                }
-                (byte & 0x3F, named)
-            }
-        };
-        let mut name: &[u8] = &[];
-        if named {
-            let length = self.number()?;
-            name = self.take(length)?;
+        0x1F => {
+            let (length, _) = part.number()?;
+            part.take(length)?;
+            Ok(Opened::Sized)
         }
-        let start = end - self.rest.len();
-        self.payload(kind)?;
-        Ok((Place { kind, start, end: end - self.rest.len(), depth }, name, start - name.len()))
+        _ => Ok(Opened::Sized),
     }
 }
 
-fn is_known(id: u8) -> bool {
-    matches!(id, 0x01..=0x14 | 0x1E | 0x1F)
+/// A field or item up to its contents, in a part that ends there: its place, its name, and where that begins.
+fn field_of<'a>(reader: &mut Reader<'a>, form: Form, depth: u32, end: usize) -> Result<(Place, &'a [u8], usize), u32> {
+    let (kind, named) = reader.kind(form)?;
+    let mut name: &[u8] = &[];
+    if named {
+        let (length, _) = reader.number()?;
+        name = reader.take(length)?;
+    }
+    let start = end - reader.rest.len();
+    payload_of(reader, kind)?;
+    Ok((Place { kind, start, end: end - reader.rest.len(), depth }, name, start - name.len()))
 }
 
 /// The check of a place.
@@ -163,7 +98,7 @@ fn open(payload: &[u8], place: Place) -> Result<Opened<'_>, u32> {
         return Err(2);
     }
     let mut reader = Reader { rest: part };
-    let opened = reader.payload(place.kind)?;
+    let opened = payload_of(&mut reader, place.kind)?;
     if !reader.rest.is_empty() {
         return Err(1);
     }
@@ -175,7 +110,7 @@ pub fn top(payload: &[u8]) -> Result<Place, u32> {
         return Err(8);
     }
     let mut reader = Reader { rest: payload };
-    let (place, _, _) = reader.field(Form::Typed { flags: 0, named: false }, 1, payload.len())?;
+    let (place, _, _) = field_of(&mut reader, Form::Typed { flags: 0, named: false }, 1, payload.len())?;
     Ok(place)
 }
 
@@ -192,7 +127,7 @@ pub fn step(payload: &[u8], place: Place, last: Option<usize>) -> Result<(Place,
     if place.depth == 32 {
         return Err(4);
     }
-    let (field, _, name) = contents.field(form, place.depth + 1, place.end)?;
+    let (field, _, name) = field_of(&mut contents, form, place.depth + 1, place.end)?;
     Ok((field, name))
 }
 
@@ -205,7 +140,7 @@ pub fn lookup(payload: &[u8], place: Place, name: &[u8]) -> Result<Place, u32> {
         if place.depth == 32 {
             return Err(4);
         }
-        let (field, met, _) = contents.field(form, place.depth + 1, place.end)?;
+        let (field, met, _) = field_of(&mut contents, form, place.depth + 1, place.end)?;
         if met == name {
             return Ok(field);
         }

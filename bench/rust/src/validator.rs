@@ -3,21 +3,11 @@
 
 use std::collections::HashSet;
 
+use crate::parts::{fixed, is_bare, narrow, Form, Reader};
+
 const NAMES: u32 = 1;
 const FORMAT: u32 = 2;
 const PADDING: u32 = 4;
-
-/// A part of the payload that is read from the front.
-struct Reader<'a> {
-    rest: &'a [u8],
-}
-
-/// What precedes a field's payload.
-#[derive(Clone, Copy)]
-enum Form {
-    Typed { flags: u8, named: bool },
-    Shared { id: u8, named: bool },
-}
 
 struct Validator {
     names: bool,
@@ -42,34 +32,10 @@ pub fn validate(modes: u32, payload: &[u8]) -> u32 {
     }
 }
 
-impl<'a> Reader<'a> {
-    fn byte(&mut self) -> Result<u8, u32> {
-        let (first, rest) = self.rest.split_first().ok_or(1_u32)?;
-        self.rest = rest;
-        Ok(*first)
-    }
-
-    fn take(&mut self, count: u64) -> Result<&'a [u8], u32> {
-        if count > self.rest.len() as u64 {
-            return Err(1);
-        }
-        let (part, rest) = self.rest.split_at(count as usize);
-        self.rest = rest;
-        Ok(part)
-    }
-}
-
 impl Validator {
     fn number(&mut self, reader: &mut Reader) -> Result<u64, u32> {
-        let first = reader.byte()?;
-        let others = first.leading_ones();
-        if others == 0 {
-            return Ok(first.into());
-        }
-        let bytes = reader.take(others.into())?;
-        let start = if others >= 7 { 0 } else { u64::from(first) & (0x7F >> others) };
-        let value = bytes.iter().fold(start, |value, byte| value << 8 | u64::from(*byte));
-        if self.format && value < 1 << (7 * others) {
+        let (value, minimal) = reader.number()?;
+        if self.format && !minimal {
             self.mask |= 64;
         }
         Ok(value)
@@ -86,16 +52,7 @@ impl Validator {
         if depth > 32 {
             return Err(4);
         }
-        let (id, named) = match form {
-            Form::Shared { id, named } => (id, named),
-            Form::Typed { flags, named } => {
-                let byte = reader.byte()?;
-                if byte & 0xC0 != flags || !is_known(byte & 0x3F) {
-                    return Err(2);
-                }
-                (byte & 0x3F, named)
-            }
-        };
+        let (id, named) = reader.kind(form)?;
         let mut name: &[u8] = &[];
         if named {
             let length = self.number(reader)?;
@@ -105,33 +62,19 @@ impl Validator {
             }
             self.text(name);
         }
-        match id {
-            0x01 | 0x0C | 0x0D => {}
-            0x0A => drop(reader.take(4)?),
-            0x0B => {
-                let bytes = reader.take(8)?;
-                if self.format {
-                    let value = f64::from_be_bytes(bytes.try_into().map_err(|_| 1_u32)?);
-                    if !value.is_nan() && f64::from(value as f32).to_bits() == value.to_bits() {
-                        self.mask |= 256;
-                    }
-                }
+        if let Some(length) = fixed(id) {
+            let bytes = reader.take(length)?;
+            if self.format && id == 0x0B && narrow(bytes).is_some() {
+                self.mask |= 256;
             }
-            0x0E..=0x10 => drop(reader.take(20)?),
-            0x11 => drop(reader.take(16)?),
-            0x12 | 0x13 => drop(reader.take(8)?),
-            0x14 => drop(reader.take(12)?),
-            0x08 | 0x09 => {
-                let value = self.number(reader)?;
-                if self.format && id == 0x09 && value >= 1 << 63 {
-                    self.mask |= 128;
-                }
-            }
-            _ => {
-                let size = self.number(reader)?;
-                let part = reader.take(size)?;
-                self.sized(id, Reader { rest: part }, depth)?;
-            }
+            return Ok((id, name));
+        }
+        let number = self.number(reader)?;
+        if !matches!(id, 0x08 | 0x09) {
+            let part = reader.take(number)?;
+            self.sized(id, Reader { rest: part }, depth)?;
+        } else if self.format && id == 0x09 && number >= 1 << 63 {
+            self.mask |= 128;
         }
         Ok((id, name))
     }
@@ -140,7 +83,7 @@ impl Validator {
         match id {
             0x02 => self.object(part, Form::Typed { flags: 0xC0, named: true }, depth),
             0x03 => {
-                let id = shared(&mut part)?;
+                let id = part.shared()?;
                 if part.rest.is_empty() {
                     return Err(2048);
                 }
@@ -152,8 +95,8 @@ impl Validator {
             }
             0x05 => {
                 let count = self.number(&mut part)?;
-                let id = shared(&mut part)?;
-                if count == 0 || matches!(id, 0x01 | 0x0C | 0x0D) {
+                let id = part.shared()?;
+                if count == 0 || is_bare(id) {
                     return Err(2048);
                 }
                 self.array(part, count, Form::Shared { id, named: false }, depth)
@@ -200,25 +143,12 @@ impl Validator {
         }
         if self.format && matches!(form, Form::Typed { .. }) && !several {
             if let Some(id) = one {
-                if !matches!(id, 0x01 | 0x0C | 0x0D) {
+                if !is_bare(id) {
                     self.mask |= 1024;
                 }
             }
         }
         Ok(())
-    }
-}
-
-fn is_known(id: u8) -> bool {
-    matches!(id, 0x01..=0x14 | 0x1E | 0x1F)
-}
-
-fn shared(part: &mut Reader) -> Result<u8, u32> {
-    let id = part.byte()?;
-    if is_known(id) {
-        Ok(id)
-    } else {
-        Err(2)
     }
 }
 

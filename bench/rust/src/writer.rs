@@ -4,6 +4,8 @@
 
 use std::collections::HashSet;
 
+use crate::parts::{fixed, is_bare, narrow, split};
+
 /// A refusal's number and its place.
 pub type Refused = (u32, usize);
 
@@ -62,39 +64,8 @@ fn varuint_length(value: u64) -> usize {
 
 /// The VarUInt at the front of a part, if it is there and minimal, and what follows it.
 fn varuint(part: &[u8]) -> Option<(u64, &[u8])> {
-    let (first, rest) = part.split_first()?;
-    let others = first.leading_ones() as usize;
-    if others == 0 {
-        return Some(((*first).into(), rest));
-    }
-    let (bytes, rest) = rest.split_at_checked(others)?;
-    let start = if others >= 7 { 0 } else { u64::from(*first) & (0x7F >> others) };
-    let value = bytes.iter().fold(start, |value, byte| value << 8 | u64::from(*byte));
-    (value >= 1 << (7 * others)).then_some((value, rest))
-}
-
-fn split(part: &[u8], length: u64) -> Option<(&[u8], &[u8])> {
-    part.split_at_checked(usize::try_from(length).ok()?)
-}
-
-/// The Float32 that holds a Float64.
-fn narrow(bytes: &[u8]) -> Option<[u8; 4]> {
-    let value = f64::from_be_bytes(bytes.try_into().ok()?);
-    let narrow = value as f32;
-    (!value.is_nan() && f64::from(narrow).to_bits() == value.to_bits()).then(|| narrow.to_be_bytes())
-}
-
-/// The length of the kinds whose payload always has the same.
-fn fixed(kind: u8) -> Option<u64> {
-    match kind {
-        0x01 | 0x0C | 0x0D => Some(0),
-        0x0A => Some(4),
-        0x0B | 0x12 | 0x13 => Some(8),
-        0x14 => Some(12),
-        0x11 => Some(16),
-        0x0E..=0x10 => Some(20),
-        _ => None,
-    }
+    let (value, minimal, rest) = crate::parts::varuint(part)?;
+    minimal.then_some((value, rest))
 }
 
 /// The first pass.
@@ -164,7 +135,7 @@ impl<'a> Measurer<'a> {
             count += 1;
             length += field;
         }
-        let shared = one.filter(|id| !several && (named || !matches!(id, 0x01 | 0x0C | 0x0D)));
+        let shared = one.filter(|id| !several && (named || !is_bare(*id)));
         let counted = if named { 0 } else { varuint_length(count as u64) };
         let size = counted + if shared.is_some() { 1 } else { count } + length;
         let container = Container { size, count, shared };

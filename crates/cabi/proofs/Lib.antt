@@ -1,5 +1,4 @@
-pub mod Laws
-pub mod ReplyLaws
+pub mod CallLaws
 pub mod SentLaws
 pub mod OneAnswer
 pub mod Refusals

@@ -11,9 +11,10 @@ use Rattle.places.specs.declared.After.{After}
 use Rattle.format.specs.Mask.{mask}
 use Rattle.places.specs.Places.{checked, top, step, part, lookup}
 use Rattle.places.specs.Values.{double, signed, unsigned, ticks}
-use Rattle.cabi.specs.Number.{truth, varuint}
+use Rattle.replies.specs.Number.{truth}
 use Rattle.cabi.specs.Sent.{sent}
-use Rattle.cabi.specs.Reply.{placeOf, afterOf, checkedReply, topReply, stepReply, partReply, foundReply, doubleReply, signedReply, unsignedReply, ticksReply, told}
+use Rattle.replies.specs.Reply.{told, varuint, doubleReply, signedReply, unsignedReply, ticksReply}
+use Rattle.place_replies.specs.PlaceReply.{placeOf, afterOf, checkedReply, topReply, stepReply, partReply, foundReply}
 
 pub varuint-one : (s answer : List ℕ) → One (varuint s answer)
 varuint-one s answer = one (varuint s answer)

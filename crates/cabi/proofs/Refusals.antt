@@ -6,7 +6,7 @@ use mathlib.Core.List.{List}
 use lib.ListN.{length}
 use lib.Dec.{ltb}
 use Rattle.frames.specs.Writer.{Outcome, refuse, wrote, outcome, zeros, resultOf, written}
-use Rattle.cabi.specs.Number.{tooFew}
+use Rattle.replies.specs.Number.{tooFew}
 use Rattle.cabi.specs.Sent.{Sent, sentOf, sent}
 
 module _ (list output work answer : List ℕ) where

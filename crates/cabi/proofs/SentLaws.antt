@@ -9,8 +9,8 @@ use Rattle.frames.specs.declared.Written.{Written}
 use Rattle.frames.specs.declared.Written.the-variants.{Refused}
 use Rattle.frames.specs.declared.Refusal.{Refusal}
 use Rattle.frames.specs.Writer.{refusalNumber, Result, written}
-use Rattle.write.specs.Whole.{cleared}
-use Rattle.cabi.specs.Number.{tooFew}
+use Rattle.container.specs.Numbers.{cleared}
+use Rattle.replies.specs.Number.{tooFew}
 use Rattle.cabi.specs.Sent.{Sent, codeOf, numberOf, sentOf, sent}
 
 module _ (s o w l : List ℕ) where
@@ -22,8 +22,10 @@ module _ (s o w l : List ℕ) where
   pub sent-is : 1 ≤ length l → (x : Written) (p q : List ℕ) → record { answer = x; output = p; work = q } ≡ written s o w → (y : Written) → x ≡ y
       → record { code = codeOf y; held = sets l 0 (numberOf y ∷ []); output = p; work = q } ≡ sent s o w l
   unfolding sent
-  sent-is h x p q e y i = rw (le-ltb (length l) 1 h) (ap (λ z. record { code = codeOf z; held = sets l 0 (numberOf z ∷ []); output = p; work = q }) (sym i) ∙ ap (λ r. sentOf r l) e)
+  sent-is h x p q e y i = rw (le-ltb (length l) 1 h)
+      (ap (λ z. record { code = codeOf z; held = sets l 0 (numberOf z ∷ []); output = p; work = q }) (sym i) ∙ ap (λ r. sentOf r l) e)
 
-  pub sent-refused : 1 ≤ length l → (x : Written) (p q : List ℕ) → record { answer = x; output = p; work = q } ≡ written s o w → (k : Refusal) (n : ℕ) → x ≡ Refused k n → (v : ℕ) → v ≡ refusalNumber k
+  pub sent-refused : 1 ≤ length l → (x : Written) (p q : List ℕ) → record { answer = x; output = p; work = q } ≡ written s o w → (k : Refusal) (n : ℕ)
+      → x ≡ Refused k n → (v : ℕ) → v ≡ refusalNumber k
       → record { code = v; held = sets l 0 (n ∷ []); output = p; work = q } ≡ sent s o w l
   sent-refused h x p q e k n i v j = ap (λ c. record { code = c; held = sets l 0 (n ∷ []); output = p; work = q }) j ∙ sent-is h x p q e (Refused k n) i

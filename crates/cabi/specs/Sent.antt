@@ -8,7 +8,7 @@ use lib.Dec.{ltb}
 use Rattle.frames.specs.declared.Written.{Written}
 use Rattle.frames.specs.declared.Written.the-variants.{Done, Refused}
 use Rattle.frames.specs.Writer.{refusalNumber, Result, zeros, written}
-use Rattle.cabi.specs.Number.{tooFew}
+use Rattle.replies.specs.Number.{tooFew}
 
 pub record Sent : Type 0 where
   pub code : ℕ

@@ -1,5 +1,5 @@
 -- What the owner demands, sentence by sentence, each as a theorem about the definitions of document 01. The proofs are citations: what stands behind them is in the
--- proofs/ of format, spelling, read, write, float and program. What the public calls have to do with it, their contracts say: each is one equation with a definition named here.
+-- proofs/ of the crates that the `use` lines below name. What the calls have to do with it, their contracts say: each is one equation with a definition.
 use Prim.Native.Nat.{ℕ, suc, _+_, _%_, _^_, _≤_, _<_}
 use mathlib.Core.Path.{_≡_}
 use mathlib.Core.Bool.{true, false}
@@ -55,45 +55,52 @@ use Rattle.spelling.specs.Halts.{Halts}
 use Rattle.spelling.specs.MaskSaid.{MaskSaid}
 use Rattle.spelling.proofs.SpelledOut as spelled
 use Rattle.hexadecimal.specs.Typing.{start}
-use Rattle.program.specs.Answer.{answered}
+use Rattle.answers.specs.Answer.{answered}
 use Rattle.program.specs.Input.{fedParts, joined}
 use Rattle.program.proofs.InParts as programs
 use Rattle.cabi.specs.Sent.{sent}
 use Rattle.cabi.proofs.Refusals as calls
 use Rattle.read.proofs.AnyStep.{Stepped}
 use Rattle.read.proofs.AnyStep as steps
-use Rattle.write.specs.Describe.{listOf}
-use Rattle.refusals.specs.Refused.{Placed}
-use Rattle.write.proofs.Answers.{Wrote}
-use Rattle.write.proofs.Answers as answers
-use Rattle.write.proofs.Writable.{success}
-use Rattle.write.proofs.Writable as writable
-use Rattle.refusals.proofs.WrittenAs.{WrittenAs}
-use Rattle.refusals.proofs.WrittenAs as writtenAs
-use Rattle.refusals.proofs.RefusedPlaces as refusals
-use Rattle.refusals.proofs.FirstFaulty as faulty
-use Rattle.refusals.proofs.Refusals as frames
+use Rattle.frames.specs.Describe.{listOf}
+use Rattle.frames.specs.Refused.{Placed}
+use Rattle.frames.proofs.Answers.{Wrote}
+use Rattle.frames.proofs.Answers as answers
+use Rattle.frames.proofs.Writable.{success}
+use Rattle.frames.proofs.Writable as writable
+use Rattle.frames.proofs.WrittenAs.{WrittenAs}
+use Rattle.frames.proofs.WrittenAs as writtenAs
+use Rattle.frames.proofs.RefusedPlaces as refusals
+use Rattle.frames.proofs.FirstFaulty as faulty
+use Rattle.frames.proofs.Refusals as frames
 
 -- ---- 1. "Whatever bytes, modes, place or write list arrive, every public call ends, reads only what it was lent, and refuses what is bad by itself."
 -- That a call ends, stays inside its slices and has this answer for every input is what the prover shows of a function that has no `requires`. tests/contracts, a part of the
 -- gate, lists every public call with its contract, and fails on a `requires`, on a missing `ensures`, and on a call that is not named here:
 --   validate::validate                                  r ≡ mask modes payload                                        crates/validate/src/lib.rt
---   Place::top                                          r ≡ top payload                                               crates/format/src/lib.rt
---   read::checked, step, part, lookup                   r ≡ checked payload place, ...                                crates/read/src/lib.rt
+--   Place::top                                          r ≡ top payload                                               crates/places/src/lib.rt
+--   open::checked                                       r ≡ checked payload place                                     crates/open/src/lib.rt
+--   read::step, part, lookup                            r ≡ step payload container last, ...                          crates/read/src/lib.rt
 --   read::view, name_view                               now r ≡ view payload place, nameView payload container last
---   read::double, signed, unsigned, ticks               r ≡ double payload place, ...
+--   values::double, signed, unsigned, ticks             r ≡ double payload place, ...                                 crates/values/src/lib.rt
 --   write::write                                        answer, output, work ≡ written list output work               crates/write/src/lib.rt
---   program::whole                                      text ≡ program input ++ what stood behind it                  crates/program/src/lib.rt
---   program::answer                                     text, output, work ≡ answered typing list text output work
--- The calls for C answer the same in numbers (crates/cabi/src/lib.rt; the numbers are in its specs/), and what is lent for an answer holds that answer or what it held:
+--   answers::whole                                      text ≡ program input ++ what stood behind it                  crates/answers/src/lib.rt
+--   answers::answer                                     text, output, work ≡ answered typing list text output work
+-- The calls for C answer the same in numbers (crates/cabi/src/lib.rt; the numbers are in the specs/ of replies and place_replies), and what is lent for an answer holds that answer or what it held:
 --   ajuqvane_validate, ajuqvane_check, ajuqvane_top, ajuqvane_step, ajuqvane_view, ajuqvane_lookup, ajuqvane_double, ajuqvane_signed, ajuqvane_unsigned, ajuqvane_ticks,
 --   ajuqvane_write, ajuqvane_varuint, ajuqvane_is_text, ajuqvane_are_equal, ajuqvane_float32_holds, ajuqvane_widen
--- The leaves, and what the calls above share:
---   number::read, length, put, read32, read64, minus_plus_one, ticks; text::is_text, are_equal; float::float32_holds, is_nan32, is_nan64, widen, narrow, of_integer;
---   format::known_of, kind_at, id_of, fixed_size, is_bare, no_faults, with_uniform, with_twin, is_blank, is_long, is_low, is_wide, is_not_text, sum_of, front_of, name_of;
---   format::meet_of, head_of; hexadecimal::character_of, nothing, feed; validate::stop_value; write::refusal_number, clear
--- ajuqvane_write_list is the program: it reads, calls `hexadecimal::feed` and `program::answer`, and writes; no contract can say what is read or written.
--- "A refused read writes nothing": none of the reading calls is lent anything to write to. The calls for C write their answer's numbers only (`told`, crates/cabi/specs/Reply.antt).
+-- What these calls share, crate by crate from the bottom up:
+--   number::read, length, put, read32, read64, minus_plus_one, ticks; text::is_text, are_equal;
+--   float::float32_holds, is_nan32, is_nan64, widen, narrow, of_integer; format::known_of, flags_of, kind_at, id_of, is_bare, stop_value, class_of;
+--   faults::no_faults, note, has, sum_of; run::join, add, is_uniform; front::span_of, text_of, front_of, name_of; frames::refusal_number;
+--   hexadecimal::character_of, nothing, feed;
+--   container::container_id, type_flags, shared_flags, size_of, pack, size_in, width_in, shared_in, is_uniform_in, store, number_at, clear;
+--   leaves::fixed, positive, negative, float64, text_leaf, custom_by_id, custom_by_name; printing::put_refused, put_encoding;
+--   head::fixed_size, meet_of, head_of; Place::of, places::placed; names::twins; frame::kind_of, name_of, name_end, leaf_of, leaf_end, bits_of;
+--   open::open_place; measure::measure; replies::number_of, varuint, double, signed, unsigned, ticks;
+--   contents::close, end_object, end_array, item_size, check_sizes; checks::check_field; place_replies::after_of, checked, top, step, part, found
+-- ajuqvane_write_list is the program: it reads, calls `hexadecimal::feed` and `answers::answer`, and writes; no contract can say what is read or written.
+-- "A refused read writes nothing": none of the reading calls is lent anything to write to. The calls for C write their answer's numbers only (`told`, crates/replies/specs/Reply.antt).
 
 -- 1. "a refused write gives its number and place, leaves the output untouched and zeroes the work numbers."
 pub refused-leaves : (list output work : List ℕ) (r : Refusal) (p : ℕ) → written list output work .answer ≡ Refused r p

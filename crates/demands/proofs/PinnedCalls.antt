@@ -4,8 +4,8 @@ use mathlib.Core.List.{List, [], _∷_, map}
 use Rattle.frames.specs.declared.Refusal.the-variants.{BadFrame}
 use Rattle.frames.specs.Writer.{refuse, wrote}
 use Rattle.number.specs.VarUInt.{varUInt}
-use Rattle.cabi.specs.Number.{tooFew, afterwards, varuint}
-use Rattle.cabi.specs.Reply.{given, noMore, notThere, wrongKind, outOfRange, told}
+use Rattle.replies.specs.Number.{tooFew, afterwards}
+use Rattle.replies.specs.Reply.{given, noMore, notThere, wrongKind, outOfRange, told, varuint}
 use Rattle.cabi.specs.Sent.{sent}
 use Rattle.program.specs.Input.{statusOf}
 

@@ -8,6 +8,7 @@ use lib.ListN.{length}
 use lib.Bits.{bitOr}
 use lib.Dec.{eqb}
 use borrow.Author.Tests.{eqb-true}
+use Rattle.number.proofs.Clash.{clash}
 use Rattle.format.specs.declared.Flaw.{Flaw}
 use Rattle.format.specs.declared.Flaw.the-variants.{Twin, Blank, Long, Low, Wide, NotUtf8, NotUniform}
 use Rattle.format.specs.Kinds.{all}
@@ -18,7 +19,7 @@ use Rattle.faults.specs.Noted.{nothing, marked, asks, noted, isNoted}
 
 both : (x y : Bool) → (x && y) ≡ true → (x ≡ true) × (y ≡ true)
 both true y e = (refl, e)
-both false y e = absurd (let z : _≡_ {A = ℕ} 0 1 = cc in omega arith)
+both false y e = clash cc
 
 -- ---- a test over the table of flaws, and over every choice of some of them, computed once
 
@@ -144,7 +145,7 @@ asks-same m f h e = ap (λ b. cond (eqb b 1) (m .names) (m .format)) (eqb-true (
 
     at : (x y : Bool) → x ≡ true → (not x || y) ≡ true → y ≡ true
     at true y e i = i
-    at false y e i = absurd (let z : _≡_ {A = ℕ} 0 1 = cc in omega arith)
+    at false y e i = clash cc
 
 -- a flaw met before others is one of those met
 met-first : (m : Modes) (p : Flaw → Bool) (h : Flaw) (fs : List Flaw) (f : Flaw) (b : Bool) → asks m h ≡ b

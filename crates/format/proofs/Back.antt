@@ -9,6 +9,7 @@ use lib.ListN.{length, take, drop, length-append, length-take, take-append-drop}
 use lib.Seq.{take-at, drop-at, drop-append-seam}
 use lib.Dec.{ltb}
 use borrow.Author.Tests.{ltb-false, le-ltb}
+use Rattle.number.proofs.Clash.{clash}
 use Rattle.number.specs.BigEndian.{All, Bytes}
 use Rattle.number.specs.VarUInt.{varUInt, encoded}
 use Rattle.number.specs.declared.VarUInt.{VarUInt}
@@ -24,10 +25,10 @@ use Rattle.format.proofs.Lists.{bytes-right, bytes-left}
 -- ---- what was read with no flaw
 
 pub never : {A X : Type 0} {k : Stop} {a : A} {fs : List Flaw} {r : List ℕ} → fault k ≡ got a fs r → X
-never h = absurd (let z : _≡_ {A = ℕ} 0 1 = cc in omega arith)
+never h = clash cc
 
 pub flawed : {A X : Type 0} {a b : A} {f : Flaw} {fs : List Flaw} {q r : List ℕ} → got a (f ∷ fs) q ≡ got b [] r → X
-flawed h = absurd (let z : _≡_ {A = ℕ} 0 1 = cc in omega arith)
+flawed h = clash cc
 
 pub bind-case : {A B X : Type 0} (o : Out A) (g : A → List ℕ → Out B) {b : B} {r : List ℕ} → bind o g ≡ got b [] r
     → ((a : A) (q : List ℕ) → o ≡ got a [] q → g a q ≡ got b [] r → X) → X

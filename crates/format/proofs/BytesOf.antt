@@ -4,9 +4,10 @@ use native.Mathlib.Omega.{arith}
 use mathlib.Core.Path.{_≡_, refl}
 use mathlib.Core.Bool.{Bool, true, false, not, cond}
 use mathlib.Core.List.{List, [], _∷_, _++_, map}
+use lib.Dec.{ltb}
 use lib.ListN.{length, length-append}
 use lib.IntN.{pos, negsuc}
-use borrow.Author.Tests.{not-true}
+use borrow.Author.Tests.{ltb-true, not-true}
 use Rattle.number.specs.BigEndian.{All, Bytes, toBytes}
 use Rattle.number.specs.VarUInt.{encoded}
 use Rattle.number.specs.Signed.{toTwos}
@@ -15,19 +16,18 @@ use Rattle.number.proofs.VarUIntLaws.{encoded-bytes}
 use Rattle.float.specs.Rule.{holds}
 use Rattle.float.specs.Width.{narrow}
 use Rattle.format.specs.declared.Kind.{Kind}
-use Rattle.format.specs.declared.Kind.the-variants.{Null, Object, UniformObject, Array, UniformArray, Binary, String, IntegerPositive, IntegerNegative, Float32, Float64, False, True, ObjectAttachment, BinaryAttachment, Hash, Uuid, DateTime, TimeSpan, ObjectId, CustomById, CustomByName}
 use Rattle.format.specs.declared.Mark.{Mark}
 use Rattle.format.specs.declared.Mark.the-variants.{OfTop, OfField, OfItem, SharedByFields, SharedByItems}
 use Rattle.format.specs.Kinds.{id, flags, typeByte, same, all, isBare, isUniform, isUniformArray}
 use Rattle.format.specs.Tree.{Float, number, nan32, nan64, Leaf, null, bool, integer, float, binary, string, objectAttachment, binaryAttachment, hash, uuid, objectId, dateTime, timeSpan, customById, customByName, Node, atom, array, object, Tree, NameWithin, LeafWithin, NodeWithin, Within}
 use Rattle.format.specs.Encoding.{withSize, concat, floatPayload, leafPayload, sharedByte, itemKinds, fieldKinds, items, fields, nodePayload, kindOf, payloadOf, encoding}
 use Rattle.format.proofs.Lists.{all-of, all-pure, all-both, length-concat, and-true}
-use Rattle.format.proofs.KindLaws.{all-same}
+use Rattle.format.proofs.KindLaws.{all-same, id-range}
 use Rattle.format.proofs.TextLaws.{inside-lt}
 use Rattle.format.proofs.RoundTrip.{read-fine}
 
 type-lt : (m : Mark) (k : Kind) → typeByte m k < 256
-type-lt m k = omega (arith, flags-lt m, id-lt k)
+type-lt m k = omega (arith, flags-lt m, id-range k .1)
   where
     flags-lt : (m : Mark) → flags m ≤ 192
     flags-lt OfTop = omega arith
@@ -35,32 +35,6 @@ type-lt m k = omega (arith, flags-lt m, id-lt k)
     flags-lt OfItem = omega arith
     flags-lt SharedByFields = omega arith
     flags-lt SharedByItems = omega arith
-
-    id-lt : (k : Kind) → id k < 32
-    id-lt = elim [
-      | Null ↦ omega arith
-      | Object ↦ omega arith
-      | UniformObject ↦ omega arith
-      | Array ↦ omega arith
-      | UniformArray ↦ omega arith
-      | Binary ↦ omega arith
-      | String ↦ omega arith
-      | IntegerPositive ↦ omega arith
-      | IntegerNegative ↦ omega arith
-      | Float32 ↦ omega arith
-      | Float64 ↦ omega arith
-      | False ↦ omega arith
-      | True ↦ omega arith
-      | ObjectAttachment ↦ omega arith
-      | BinaryAttachment ↦ omega arith
-      | Hash ↦ omega arith
-      | Uuid ↦ omega arith
-      | DateTime ↦ omega arith
-      | TimeSpan ↦ omega arith
-      | ObjectId ↦ omega arith
-      | CustomById ↦ omega arith
-      | CustomByName ↦ omega arith
-    ]
 
 both : (s t : List ℕ) → Bytes s → Bytes t → Bytes (s ++ t)
 both [] t a b = b

@@ -1,33 +1,32 @@
 -- What stands before a field's contents is local; a front ends with the name; the contents end where the payload ends; and a field takes a byte at least.
-use Prim.Native.Nat.{ℕ, zero, suc, _+_, _-_, _^_, _<_}
+use Prim.Native.Nat.{ℕ, _^_, _<_}
 use native.Mathlib.Omega.{arith}
 use mathlib.Core.Path.{_≡_, refl, sym, ap, _∙_}
-use mathlib.Core.Bool.{Bool, true, false, not, cond}
+use mathlib.Core.Bool.{false, not}
 use mathlib.Core.List.{List, [], _∷_, _++_, append-assoc}
 use lib.ListN.{length, length-append}
 use lib.Dec.{ltb}
 use lib.IntN.{pos, negsuc}
 use Rattle.number.specs.BigEndian.{fromBytes}
-use Rattle.number.specs.Signed.{fromTwos}
 use Rattle.text.specs.Utf8.{isText}
 use Rattle.float.specs.Rule.{holds}
 use Rattle.format.specs.declared.Kind.{Kind}
-use Rattle.format.specs.declared.Kind.the-variants.{Null, Object, UniformObject, Array, UniformArray, Binary, String, IntegerPositive, IntegerNegative, Float32, Float64, False, True, ObjectAttachment, BinaryAttachment, Hash, Uuid, DateTime, TimeSpan, ObjectId, CustomById, CustomByName}
 use Rattle.format.specs.declared.Known.{Known}
 use Rattle.format.specs.declared.Known.the-variants.{Unknown, Is}
 use Rattle.format.specs.declared.Mark.{Mark}
 use Rattle.format.specs.declared.Mark.the-variants.{OfTop, OfField, OfItem, SharedByFields, SharedByItems}
 use Rattle.format.specs.declared.Form.{Form}
 use Rattle.format.specs.declared.Form.the-variants.{Top, Field, Item, SharedField, SharedItem}
-use Rattle.format.specs.declared.Stop.the-variants.{BadUniform}
-use Rattle.format.specs.Kinds.{kindAt, isBare}
+use Rattle.format.specs.Kinds.{typeByte, kindAt, isBare}
 use Rattle.format.specs.declared.Flaw.{Flaw}
 use Rattle.format.specs.declared.Flaw.the-variants.{Low, Wide, NotUtf8, Blank}
-use Rattle.format.specs.Parse.{Out, fault, got, bind, raise, make, readVarUInt, fixed, sized, rest}
+use Rattle.format.specs.Parse.{Out, got, bind, raise, make, readVarUInt, fixed, sized, rest}
 use Rattle.format.specs.Names.{isEmpty, readText, readName}
-use Rattle.format.specs.Tree.{Leaf, null, bool, integer, float, binary, string, objectAttachment, binaryAttachment, hash, uuid, objectId, dateTime, timeSpan}
-use Rattle.format.specs.Payload.{kindFound, readType, front, float32, float64, readNegative, readFloat64, readCustomById, readCustomByName, Payload, leaf, fields, sharedFields, items, sharedItems, payload, headBy, Head, value, fieldsIn, itemsIn, sharedFieldsOf, readSharedFields, sharedItemsOf, readSharedItems, readFields, readItems, head}
+use Rattle.format.specs.Tree.{Leaf, integer, float, binary, string}
+use Rattle.format.specs.Payload.{Shape, nothing, bytes, text, positive, negative, wide, behind, shapeOf, payloadIn, kindFound, readType, front, float64, readNegative, readFloat64, readCustomById, readCustomByName, Payload, leaf, fields, sharedFields, items, sharedItems, payload, headBy, Head, value, fieldsIn, itemsIn, readSharedFields, readSharedItems, readFields, readItems, head}
+use Rattle.format.specs.declared.Inner.the-variants as I
 use Rattle.format.proofs.Back.{never}
+use Rattle.format.proofs.SharedKind.{shared-fields-got, shared-items-got}
 use Rattle.format.proofs.Local.{bind-got, raise-got, Local, local-bind, local-got, local-raise, local-make, local-number, local-fixed, local-sized, sized-got}
 
 -- ---- local
@@ -44,36 +43,24 @@ local-negative = local-bind readVarUInt (λ m r. raise (not (ltb m (2 ^ 63))) Lo
 local-float64 : Local readFloat64
 local-float64 = local-bind (fixed 8) (λ b r. raise (holds (fromBytes b)) Wide (got (float (float64 (fromBytes b))) [] r)) (local-fixed 8) (λ b. local-raise (holds (fromBytes b)) Wide (float (float64 (fromBytes b))))
 
-local-bytes : (n : ℕ) (made : List ℕ → Leaf) → Local (λ s. make value (make made (fixed n s)))
-local-bytes n made = local-make value (λ s. make made (fixed n s)) (local-make made (fixed n) (local-fixed n))
-
-local-nothing : (v : Leaf) → Local (λ s. make value (got v [] s))
-local-nothing v = local-make value (λ s. got v [] s) (local-got v)
+local-shape : (f : Shape) → Local (headBy (payloadIn f))
+local-shape (nothing v) = local-make value (λ s. got v [] s) (local-got v)
+local-shape (bytes n made) = local-make value (λ s. make made (fixed n s)) (local-make made (fixed n) (local-fixed n))
+local-shape text = local-make value (λ s. make string (readText s)) (local-make string readText local-text)
+local-shape positive = local-make value (λ s. make (λ m. integer (pos m)) (readVarUInt s)) (local-make (λ m. integer (pos m)) readVarUInt local-number)
+local-shape negative = local-make value readNegative local-negative
+local-shape wide = local-make value readFloat64 local-float64
+local-shape (behind I.Bytes) = local-make value (λ s. make binary (sized rest s)) (local-make binary (sized rest) (local-sized rest))
+local-shape (behind I.ById) = local-make value (sized readCustomById) (local-sized readCustomById)
+local-shape (behind I.ByName) = local-make value (sized readCustomByName) (local-sized readCustomByName)
+local-shape (behind I.Fields) = local-sized readFields
+local-shape (behind I.SharedFields) = local-sized readSharedFields
+local-shape (behind I.Items) = local-sized readItems
+local-shape (behind I.SharedItems) = local-sized (λ b. bind (readVarUInt b) readSharedItems)
 
 pub local-head : (k : Kind) → Local (head k)
 unfolding head payload
-local-head Null = local-nothing null
-local-head Object = local-sized readFields
-local-head UniformObject = local-sized readSharedFields
-local-head Array = local-sized readItems
-local-head UniformArray = local-sized (λ b. bind (readVarUInt b) readSharedItems)
-local-head Binary = local-make value (λ s. make binary (sized rest s)) (local-make binary (sized rest) (local-sized rest))
-local-head String = local-make value (λ s. make string (readText s)) (local-make string readText local-text)
-local-head IntegerPositive = local-make value (λ s. make (λ m. integer (pos m)) (readVarUInt s)) (local-make (λ m. integer (pos m)) readVarUInt local-number)
-local-head IntegerNegative = local-make value readNegative local-negative
-local-head Float32 = local-bytes 4 (λ b. float (float32 (fromBytes b)))
-local-head Float64 = local-make value readFloat64 local-float64
-local-head False = local-nothing (bool false)
-local-head True = local-nothing (bool true)
-local-head ObjectAttachment = local-bytes 20 objectAttachment
-local-head BinaryAttachment = local-bytes 20 binaryAttachment
-local-head Hash = local-bytes 20 hash
-local-head Uuid = local-bytes 16 uuid
-local-head DateTime = local-bytes 8 (λ b. dateTime (fromTwos (fromBytes b)))
-local-head TimeSpan = local-bytes 8 (λ b. timeSpan (fromTwos (fromBytes b)))
-local-head ObjectId = local-bytes 12 objectId
-local-head CustomById = local-make value (sized readCustomById) (local-sized readCustomById)
-local-head CustomByName = local-make value (sized readCustomByName) (local-sized readCustomByName)
+local-head k = local-shape (shapeOf k)
 
 -- ---- a front: what stands last is the name
 
@@ -153,17 +140,17 @@ nil [] = refl
 nil (x ∷ s) = ap (λ l. x ∷ l) (nil s)
 
 -- of a sized part: its body, and what follows the part
-behind : (s pre b r : List ℕ) (h : Head) → s ≡ pre ++ (b ++ r) → Body b h [] → Body s h r
-behind s pre b r (value v) e i = tt
-behind s pre b r (fieldsIn f c) e i =
+ended : (s pre b r : List ℕ) (h : Head) → s ≡ pre ++ (b ++ r) → Body b h [] → Body s h r
+ended s pre b r (value v) e i = tt
+ended s pre b r (fieldsIn f c) e i =
     let z : b ≡ i .0 .0 ++ c = rw (← nil c) (i .0 .1) in
     ((pre ++ i .0 .0, rw append-assoc (rw (z, append-assoc (i .0 .0) c r) at e)), i .1)
-behind s pre b r (itemsIn f n c) e i =
+ended s pre b r (itemsIn f n c) e i =
     let z : b ≡ i .0 .0 ++ c = rw (← nil c) (i .0 .1) in
     ((pre ++ i .0 .0, rw append-assoc (rw (z, append-assoc (i .0 .0) c r) at e)), i .1)
 
 body-sized : (p : List ℕ → Out Head) → ((b : List ℕ) (h : Head) (gs : List Flaw) → p b ≡ got h gs [] → Body b h []) → (s : List ℕ) {h : Head} {fs : List Flaw} {r : List ℕ} → sized p s ≡ got h fs r → Body s h r
-body-sized p f s {h} {fs} {r} e = sized-got p s e λ pre b gs i es l. behind s pre b r h es (f b h gs i)
+body-sized p f s {h} {fs} {r} e = sized-got p s e λ pre b gs i es l. ended s pre b r h es (f b h gs i)
 
 fields-body : (b : List ℕ) (h : Head) (gs : List Flaw) → readFields b ≡ got h gs [] → Body b h []
 fields-body b h gs e = let z : h ≡ fieldsIn Field b = cc in rw z (([], sym (nil b)), tt)
@@ -175,33 +162,15 @@ items-body b h gs e = bind-got (readVarUInt b) _ e λ n es q gs′ i k _.
     rw z ((x .0, rw (nil q) (x .1)), tt)
 
 shared-fields-body : (b : List ℕ) (h : Head) (gs : List Flaw) → readSharedFields b ≡ got h gs [] → Body b h []
-shared-fields-body [] h gs e = never e
-shared-fields-body (c ∷ s) h gs e = go (kindAt SharedByFields c) s e
-  where
-    go : (o : Known) (s : List ℕ) → sharedFieldsOf o s ≡ got h gs [] → Body (c ∷ s) h []
-    go Unknown s e = never e
-    go (Is k) [] e = never e
-    go (Is k) (x ∷ s) e = let z : h ≡ fieldsIn (SharedField k) (x ∷ s) = cc in rw z ((c ∷ [], ap (λ l. c ∷ x ∷ l) (sym (nil s))), tt)
+shared-fields-body b h gs e = shared-fields-got b e λ k c s eb eh.
+    rw (eh, eb) ((typeByte SharedByFields k ∷ [], ap (λ l. typeByte SharedByFields k ∷ c ∷ l) (sym (nil s))), tt)
 
--- behind a count, whose bytes are w: the shared byte c
-shared-item-body : (b w : List ℕ) (h : Head) (gs : List Flaw) (k : Kind) (m c : ℕ) (t : List ℕ) → b ≡ w ++ (c ∷ t) → (u : Bool) → isBare k ≡ u
-    → cond u (fault BadUniform) (got (itemsIn (SharedItem k) (suc m) t) [] []) ≡ got h gs [] → Body b h []
-shared-item-body b w h gs k m c t e true l j = never j
-shared-item-body b w h gs k m c t e false l j =
-    let z : h ≡ itemsIn (SharedItem k) (suc m) t = cc in
-    rw z ((w ++ (c ∷ []), rw (nil t) (e ∙ sym (append-assoc w (c ∷ []) t))), l)
-
-shared-byte-body : (b w : List ℕ) (h : Head) (gs : List Flaw) (n : ℕ) (q : List ℕ) → b ≡ w ++ q → readSharedItems n q ≡ got h gs [] → Body b h []
-shared-byte-body b w h gs n [] e j = never j
-shared-byte-body b w h gs n (c ∷ t) e j = go n (kindAt SharedByItems c) j
-  where
-    go : (n : ℕ) (o : Known) → sharedItemsOf n o t ≡ got h gs [] → Body b h []
-    go n Unknown j = never j
-    go zero (Is k) j = never j
-    go (suc m) (Is k) j = shared-item-body b w h gs k m c t e (isBare k) refl j
-
+-- behind a count
 shared-items-body : (b : List ℕ) (h : Head) (gs : List Flaw) → bind (readVarUInt b) readSharedItems ≡ got h gs [] → Body b h []
-shared-items-body b h gs e = bind-got (readVarUInt b) _ e λ n es q gs′ i k _. let x = local-number b n es q i in shared-byte-body b (x .0) h gs′ n q (x .1) k
+shared-items-body b h gs e = bind-got (readVarUInt b) _ e λ n es q gs′ i j _. shared-items-got n q j λ k m s en eq full eh.
+    let x = local-number b n es q i in
+    let y : b ≡ x .0 ++ (typeByte SharedByItems k ∷ s) = x .1 ∙ ap (λ q. x .0 ++ q) eq in
+    rw eh ((x .0 ++ (typeByte SharedByItems k ∷ []), rw (nil s) (y ∙ sym (append-assoc (x .0) (typeByte SharedByItems k ∷ []) s))), full)
 
 value-body : (s : List ℕ) (o : Out Leaf) {h : Head} {fs : List Flaw} {r : List ℕ} → make value o ≡ got h fs r → Body s h r
 value-body s o {h} e = bind-got o _ e λ v es q gs i k _. let z : h ≡ value v = cc in rw z tt

@@ -2,10 +2,11 @@
 use Prim.Native.Nat.{ℕ, _+_, _-_, _≤_, _<_}
 use native.Mathlib.Omega.{arith}
 use mathlib.Core.Path.{_≡_, refl, sym}
-use mathlib.Core.Bool.{Bool, true, false, _||_, cond}
+use mathlib.Core.Bool.{Bool, true, false, _&&_, _||_, cond}
 use mathlib.Core.List.{List, [], _∷_, map}
 use lib.Dec.{eqb, ltb}
-use borrow.Author.Tests.{eqb-true, eq-eqb, ltb-false, lt-ltb, le-ltb}
+use borrow.Author.Tests.{eqb-true, eq-eqb, ltb-true, ltb-false, lt-ltb, le-ltb}
+use Rattle.number.proofs.Clash.{clash}
 use Rattle.number.specs.BigEndian.{All}
 use Rattle.format.specs.declared.Kind.{Kind}
 use Rattle.format.specs.declared.Kind.the-variants.{Null, Object, UniformObject, Array, UniformArray, Binary, String, IntegerPositive, IntegerNegative, Float32, Float64, False, True, ObjectAttachment, BinaryAttachment, Hash, Uuid, DateTime, TimeSpan, ObjectId, CustomById, CustomByName}
@@ -43,7 +44,7 @@ known-rt = elim [
 ]
 
 unknown-never : {X : Type 0} {k : Kind} → Unknown ≡ Is k → X
-unknown-never h = absurd (let z : _≡_ {A = ℕ} 0 1 = cc in omega arith)
+unknown-never h = clash cc
 
 with-inv : (n : ℕ) (ks : List Kind) (k : Kind) → withId n ks ≡ Is k → n ≡ id k
 with-inv n [] k h = unknown-never h
@@ -56,6 +57,20 @@ with-inv n (l ∷ ks) k h = go (eqb n (id l)) refl (with-inv n ks k) h
 pub known-inv : (n : ℕ) (k : Kind) → known n ≡ Is k → n ≡ id k
 unfolding known
 known-inv n k h = with-inv n kinds k h
+
+-- a fact of the table of kinds is one test, computed over the list of them
+pub every-kind : (test : Kind → Bool) → all test kinds ≡ true → (k : Kind) → test k ≡ true
+unfolding known
+every-kind test e k = at kinds (known-rt k) e
+  where
+    go : (l : Kind) (ks : List Kind) (x : Bool) → (withId (id k) ks ≡ Is k → all test ks ≡ true → test k ≡ true) → cond x (Is l) (withId (id k) ks) ≡ Is k
+        → (test l && all test ks) ≡ true → test k ≡ true
+    go l ks true ih h e = let z : l ≡ k = cc in rw z at (and-true (test l) (all test ks) e .0)
+    go l ks false ih h e = ih h (and-true (test l) (all test ks) e .1)
+
+    at : (ks : List Kind) → withId (id k) ks ≡ Is k → all test ks ≡ true → test k ≡ true
+    at [] h e = unknown-never h
+    at (l ∷ ks) h e = go l ks (eqb (id k) (id l)) (at ks) h e
 
 pub kind-rt : (m : Mark) (k : Kind) → kindAt m (typeByte m k) ≡ Is k
 kind-rt m k =
@@ -111,3 +126,10 @@ or-assoc false false false = refl
 pub bare-is : (n : ℕ) (k : Kind) → n ≡ id k → ((eqb n 1 || eqb n 12) || eqb n 13) ≡ isBare k
 unfolding isBare
 bare-is n k e = rw e (or-assoc (eqb (id k) 1) (eqb (id k) 12) (eqb (id k) 13))
+
+-- no ID is 0, and each is below the flags
+pub id-range : (k : Kind) → (1 ≤ id k) × (id k < 32)
+id-range k = (lt-le 0 (id k) (ltb-true 0 (id k) (every-kind (λ k. ltb 0 (id k)) refl k)), ltb-true (id k) 32 (every-kind (λ k. ltb (id k) 32) refl k))
+  where
+    lt-le : (a b : ℕ) → a < b → a + 1 ≤ b
+    lt-le a b h = omega arith

@@ -3,8 +3,13 @@ pub mod Lists
 pub mod Back
 pub mod KindLaws
 pub mod TextLaws
+pub mod SharedKind
 pub mod Leaves
+pub mod LeavesBack
 pub mod Fronts
+pub mod LayerFields
+pub mod LayerRead
+pub mod LayerBack
 pub mod Layer
 pub mod RoundTrip
 pub mod Masks

@@ -6,6 +6,7 @@ use mathlib.Core.Bool.{Bool, true, false, _&&_}
 use mathlib.Core.List.{List, [], _∷_, _++_, map}
 use lib.ListN.{length, take, drop, length-append}
 use lib.Seq.{take-nil}
+use Rattle.number.proofs.Clash.{clash}
 use Rattle.number.specs.BigEndian.{All, Bytes}
 use Rattle.format.specs.Encoding.{concat}
 
@@ -69,4 +70,4 @@ length-concat f (x ∷ xs) h = rw length-append (omega (arith, length-concat f x
 
 pub and-true : (a b : Bool) → (a && b) ≡ true → (a ≡ true) × (b ≡ true)
 and-true true b h = (refl, h)
-and-true false b h = (h, absurd (let z : _≡_ {A = ℕ} 0 1 = cc in omega arith))
+and-true false b h = (h, clash cc)

@@ -8,6 +8,7 @@ use mathlib.Core.List.{List, [], _∷_}
 use lib.ListN.{length}
 use lib.Dec.{ltb, eqb}
 use borrow.Author.Tests.{ltb-false, le-ltb}
+use Rattle.number.proofs.Clash.{clash}
 use Rattle.format.specs.declared.Stop.{Stop}
 use Rattle.format.specs.declared.Stop.the-variants.{Early, Unknown, TooDeep, TooLong, BadUniform}
 use Rattle.format.specs.declared.Form.the-variants.{Top}
@@ -82,7 +83,7 @@ fewer-at few more w NotUniform = w .withFormat
 
 and-mono : (a b c : Bool) → (a ≡ true → b ≡ true) → (a && c) ≡ true → (b && c) ≡ true
 and-mono true b c f h = rw (f refl) h
-and-mono false b c f h = absurd (let z : _≡_ {A = ℕ} 0 1 = cc in omega arith)
+and-mono false b c f h = clash cc
 
 pub counts-fewer : (few more : ℕ) → Fewer few more → (met : List Flaw) (f : Flaw) → counts few met f ≡ true → counts more met f ≡ true
 counts-fewer few more w met f h = and-mono (isAsked few (modeOf f)) (isAsked more (modeOf f)) (has f met) (fewer-at few more w f) h

@@ -11,7 +11,8 @@ use Rattle.format.specs.Encoding.{kindOf, payloadOf, encoding}
 use Rattle.format.specs.Reader.{Standing, Named, Layout, tree, read}
 use Rattle.format.proofs.Lists.{append-nil, map-map, map-same}
 use Rattle.format.proofs.Back.{never}
-use Rattle.format.proofs.Layer.{stand, Fine, layer-fine}
+use Rattle.format.proofs.LayerFields.{stand, Fine}
+use Rattle.format.proofs.Layer.{layer-fine}
 
 -- a tree as its encoding has it
 abbrev pub layoutOf : (d : ℕ) → Tree d → Layout d

@@ -8,6 +8,7 @@ use mathlib.Core.List.{List, [], _∷_, _++_}
 use lib.ListN.{length}
 use lib.Dec.{ltb}
 use borrow.Author.Tests.{le-ltb, ltb-false}
+use Rattle.number.proofs.Clash.{clash}
 use Rattle.number.specs.BigEndian.{Bytes}
 use Rattle.format.specs.declared.Form.the-variants.{Top}
 use Rattle.format.specs.Limits.{depthLimit, lengthLimit}
@@ -50,10 +51,10 @@ unfolding treeOf
 bounds-if-tree s t h = long-or (ltb lengthLimit (length s)) refl h
   where
     read-or : (o : Out _) → read depthLimit Top s ≡ o → length s ≤ lengthLimit → treeIn o ≡ some t → mask boundsOnly s ≡ 0
-    read-or (fault k) e l h = absurd (let z : _≡_ {A = ℕ} 0 1 = cc in omega arith)
+    read-or (fault k) e l h = clash cc
     read-or (got x fs []) e l h = rw (mask-short boundsOnly s l, e)
     read-or (got x fs (b ∷ r)) e l h = rw (mask-short boundsOnly s l, e)
 
     long-or : (b : Bool) → ltb lengthLimit (length s) ≡ b → cond b none (treeIn (read depthLimit Top s)) ≡ some t → mask boundsOnly s ≡ 0
-    long-or true l h = absurd (let z : _≡_ {A = ℕ} 0 1 = cc in omega arith)
+    long-or true l h = clash cc
     long-or false l h = read-or (read depthLimit Top s) refl (ltb-false lengthLimit (length s) l) h

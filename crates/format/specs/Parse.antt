@@ -4,9 +4,8 @@ use mathlib.Core.Bool.{Bool, true, false, not, cond}
 use mathlib.Core.List.{List, [], _∷_, _++_}
 use lib.ListN.{length, take, drop}
 use lib.Dec.{ltb, leb}
-use Rattle.number.specs.VarUInt.{varUInt}
+use Rattle.number.specs.VarUInt.{varUInt, numberThen}
 use Rattle.number.specs.declared.VarUInt.{VarUInt}
-use Rattle.number.specs.declared.VarUInt.the-variants.{Cut, Whole}
 use Rattle.format.specs.declared.Flaw.{Flaw}
 use Rattle.format.specs.declared.Flaw.the-variants.{Long}
 use Rattle.format.specs.declared.Stop.{Stop}
@@ -40,8 +39,7 @@ whole (got a fs []) r = got a fs r
 whole (got a fs (b ∷ bs)) r = fault Early
 
 abbrev pub number : VarUInt → List ℕ → Out ℕ
-number Cut s = fault Early
-number (Whole v n m) s = raise (not m) Long (got v [] (drop n s))
+number o s = numberThen (fault Early) (λ v n m. raise (not m) Long (got v [] (drop n s))) o
 
 unfoldable pub readVarUInt : List ℕ → Out ℕ
 readVarUInt s = number (varUInt s) s

@@ -1,7 +1,7 @@
 -- What stands before a field's contents: its type byte and name (`front`), and its payload up to the contents (`head`). The reader and the calls
 -- on places share them, and the write list shares the table of payloads (document 01, "Kinds and payloads", and the order at a field, "The mask").
 use Prim.Native.Nat.{ℕ, zero, suc, _^_}
-use mathlib.Core.Bool.{Bool, true, false, not, cond}
+use mathlib.Core.Bool.{true, false, not, cond}
 use mathlib.Core.List.{List, [], _∷_}
 use lib.Dec.{ltb}
 use lib.IntN.{pos}
@@ -23,6 +23,10 @@ use Rattle.format.specs.Kinds.{kindAt, isBare}
 use Rattle.format.specs.declared.Flaw.the-variants.{Low, Wide}
 use Rattle.format.specs.Parse.{Out, fault, got, bind, raise, make, readVarUInt, fixed, sized, rest}
 use Rattle.format.specs.Names.{readText, readName}
+use Rattle.format.specs.declared.Inner.the-variants as I
+use Rattle.format.specs.declared.Inner.{Inner}
+use Rattle.format.specs.declared.Class.{Class}
+use Rattle.format.specs.declared.Class.the-variants as C
 use Rattle.format.specs.Tree.{Float, number, nan32, nan64, Leaf, null, bool, integer, float, binary, string, objectAttachment, binaryAttachment, hash, uuid, objectId, dateTime, timeSpan, customById, customByName}
 
 -- ---- the type byte and the name
@@ -73,35 +77,76 @@ readCustomById s = bind (readVarUInt s) λ n r. make (customById n) (rest r)
 abbrev pub readCustomByName : List ℕ → Out Leaf
 readCustomByName s = bind (readText s) λ n r. make (customByName n) (rest r)
 
--- ---- the table of kinds and payloads: how a leaf is read, or which container it is
+-- ---- the table of kinds: what each payload is made of
+
+-- no byte, and which leaf it is; as many bytes, whatever they are, and which leaf they are; text behind its size; a VarUInt, and one that counts down; a
+-- Float64; or what stands behind a size
+pub data Shape : Type 0 where
+  nothing : Leaf → Shape
+  bytes : ℕ → (List ℕ → Leaf) → Shape
+  text positive negative wide : Shape
+  behind : Inner → Shape
+
+abbrev pub shapeOf : Kind → Shape
+shapeOf Null = nothing null
+shapeOf Object = behind I.Fields
+shapeOf UniformObject = behind I.SharedFields
+shapeOf Array = behind I.Items
+shapeOf UniformArray = behind I.SharedItems
+shapeOf Binary = behind I.Bytes
+shapeOf String = text
+shapeOf IntegerPositive = positive
+shapeOf IntegerNegative = negative
+shapeOf Float32 = bytes 4 λ b. float (float32 (fromBytes b))
+shapeOf Float64 = wide
+shapeOf False = nothing (bool false)
+shapeOf True = nothing (bool true)
+shapeOf ObjectAttachment = bytes 20 objectAttachment
+shapeOf BinaryAttachment = bytes 20 binaryAttachment
+shapeOf Hash = bytes 20 hash
+shapeOf Uuid = bytes 16 uuid
+shapeOf DateTime = bytes 8 λ b. dateTime (fromTwos (fromBytes b))
+shapeOf TimeSpan = bytes 8 λ b. timeSpan (fromTwos (fromBytes b))
+shapeOf ObjectId = bytes 12 objectId
+shapeOf CustomById = behind I.ById
+shapeOf CustomByName = behind I.ByName
+
+-- the class tells no leaf
+abbrev pub classIn : Shape → Class
+classIn (nothing v) = C.Fixed 0
+classIn (bytes n made) = C.Fixed n
+classIn text = C.Text
+classIn positive = C.Positive
+classIn negative = C.Negative
+classIn wide = C.Wide
+classIn (behind i) = C.Behind i
+
+abbrev pub classOf : Kind → Class
+classOf k = classIn (shapeOf k)
+
+-- ---- a payload by its shape: how a leaf is read, or which container it is
 
 pub data Payload : Type 0 where
   leaf : (List ℕ → Out Leaf) → Payload
   fields sharedFields items sharedItems : Payload
 
+abbrev pub payloadIn : Shape → Payload
+payloadIn (nothing v) = leaf λ s. got v [] s
+payloadIn (bytes n made) = leaf λ s. make made (fixed n s)
+payloadIn text = leaf λ s. make string (readText s)
+payloadIn positive = leaf λ s. make (λ m. integer (pos m)) (readVarUInt s)
+payloadIn negative = leaf readNegative
+payloadIn wide = leaf readFloat64
+payloadIn (behind I.Bytes) = leaf λ s. make binary (sized rest s)
+payloadIn (behind I.ById) = leaf λ s. sized readCustomById s
+payloadIn (behind I.ByName) = leaf λ s. sized readCustomByName s
+payloadIn (behind I.Fields) = fields
+payloadIn (behind I.SharedFields) = sharedFields
+payloadIn (behind I.Items) = items
+payloadIn (behind I.SharedItems) = sharedItems
+
 unfoldable pub payload : Kind → Payload
-payload Null = leaf λ s. got null [] s
-payload Object = fields
-payload UniformObject = sharedFields
-payload Array = items
-payload UniformArray = sharedItems
-payload Binary = leaf λ s. make binary (sized rest s)
-payload String = leaf λ s. make string (readText s)
-payload IntegerPositive = leaf λ s. make (λ m. integer (pos m)) (readVarUInt s)
-payload IntegerNegative = leaf readNegative
-payload Float32 = leaf λ s. make (λ b. float (float32 (fromBytes b))) (fixed 4 s)
-payload Float64 = leaf readFloat64
-payload False = leaf λ s. got (bool false) [] s
-payload True = leaf λ s. got (bool true) [] s
-payload ObjectAttachment = leaf λ s. make objectAttachment (fixed 20 s)
-payload BinaryAttachment = leaf λ s. make binaryAttachment (fixed 20 s)
-payload Hash = leaf λ s. make hash (fixed 20 s)
-payload Uuid = leaf λ s. make uuid (fixed 16 s)
-payload DateTime = leaf λ s. make (λ b. dateTime (fromTwos (fromBytes b))) (fixed 8 s)
-payload TimeSpan = leaf λ s. make (λ b. timeSpan (fromTwos (fromBytes b))) (fixed 8 s)
-payload ObjectId = leaf λ s. make objectId (fixed 12 s)
-payload CustomById = leaf λ s. sized readCustomById s
-payload CustomByName = leaf λ s. sized readCustomByName s
+payload k = payloadIn (shapeOf k)
 
 -- ---- the payload up to its contents
 

@@ -2,6 +2,8 @@
 // document 01, specs/ says.
 ghost use mathlib.Core.Path.{_≡_};
 ghost use Rattle.format.specs.Kinds.{id, known, flags, kindAt, isBare};
+ghost use Rattle.format.specs.Mask.{stopValue};
+ghost use Rattle.format.specs.Payload.{classOf};
 
 // The greatest depth, and the greatest length of a payload or a write list ("Limits").
 pub const DEPTH: u32 = 32;
@@ -92,6 +94,27 @@ pub enum Flaw {
     NotUniform,
 }
 
+// What a payload is made of.
+pub enum Class {
+    Fixed(usize),
+    Text,
+    Positive,
+    Negative,
+    Wide,
+    Behind(Inner),
+}
+
+// What stands behind a size.
+pub enum Inner {
+    Bytes,
+    ById,
+    ByName,
+    Fields,
+    SharedFields,
+    Items,
+    SharedItems,
+}
+
 // The kind with an ID.
 pub fn known_of(b: u8) -> Known
     ensures { λ r. ⌜ r ≡ known b ⌝ }
@@ -123,7 +146,8 @@ pub fn known_of(b: u8) -> Known
     }
 }
 
-fn flags_of(mark: Mark) -> u8
+// What a type byte has above its ID.
+pub fn flags_of(mark: Mark) -> u8
     ensures { λ r. ⌜ r ≡ flags mark ⌝ }
 {
     match mark {
@@ -181,4 +205,47 @@ pub fn is_bare(kind: Kind) -> bool
 {
     let n = id_of(kind);
     (n == 0x01) | (n == 0x0c) | (n == 0x0d)
+}
+
+// The number of a fault that stops ("The mask").
+pub fn stop_value(stop: Stop) -> u32
+    ensures { λ r. ⌜ r ≡ stopValue stop ⌝ }
+{
+    match stop {
+        Stop::Early => 1,
+        Stop::Unknown => 2,
+        Stop::TooDeep => 4,
+        Stop::TooLong => 8,
+        Stop::BadUniform => 2048,
+    }
+}
+
+// The table: what each payload is made of.
+pub fn class_of(kind: Kind) -> Class
+    ensures { λ r. ⌜ r ≡ classOf kind ⌝ }
+{
+    match kind {
+        Kind::Null => Class::Fixed(0),
+        Kind::Object => Class::Behind(Inner::Fields),
+        Kind::UniformObject => Class::Behind(Inner::SharedFields),
+        Kind::Array => Class::Behind(Inner::Items),
+        Kind::UniformArray => Class::Behind(Inner::SharedItems),
+        Kind::Binary => Class::Behind(Inner::Bytes),
+        Kind::String => Class::Text,
+        Kind::IntegerPositive => Class::Positive,
+        Kind::IntegerNegative => Class::Negative,
+        Kind::Float32 => Class::Fixed(4),
+        Kind::Float64 => Class::Wide,
+        Kind::False => Class::Fixed(0),
+        Kind::True => Class::Fixed(0),
+        Kind::ObjectAttachment => Class::Fixed(20),
+        Kind::BinaryAttachment => Class::Fixed(20),
+        Kind::Hash => Class::Fixed(20),
+        Kind::Uuid => Class::Fixed(16),
+        Kind::DateTime => Class::Fixed(8),
+        Kind::TimeSpan => Class::Fixed(8),
+        Kind::ObjectId => Class::Fixed(12),
+        Kind::CustomById => Class::Behind(Inner::ById),
+        Kind::CustomByName => Class::Behind(Inner::ByName),
+    }
 }

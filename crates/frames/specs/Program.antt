@@ -1,10 +1,9 @@
 -- The program: what it prints of what it reads (document 01, "The write list", its last paragraph).
 use Prim.Native.Nat.{ℕ, zero, suc, _+_, _-_, _*_, _/_, _%_}
-use mathlib.Core.Bool.{Bool, true, false, _&&_, cond}
+use mathlib.Core.Bool.{_&&_, cond}
 use mathlib.Core.Option.{Option, none, some}
 use mathlib.Core.List.{List, [], _∷_, _++_}
 use lib.Dec.{eqb, ltb, leb}
-use Rattle.frames.specs.declared.Refusal.{Refusal}
 use Rattle.frames.specs.declared.Refusal.the-variants.{BadFrame}
 use Rattle.format.specs.Encoding.{concat}
 use Rattle.frames.specs.Writer.{refusalNumber, Outcome, refuse, wrote, outcome}

@@ -13,7 +13,6 @@ use Rattle.format.specs.declared.Known.the-variants.{Unknown, Is}
 use Rattle.frames.specs.declared.Refusal.{Refusal}
 use Rattle.frames.specs.declared.Refusal.the-variants.{ListEnds, BadFrame, EmptyName, NameUsed, NotText, TooDeep, NoneOpen, Complete}
 use Rattle.format.specs.Kinds.{known, any}
-use Rattle.format.specs.declared.Flaw.{Flaw}
 use Rattle.format.specs.declared.Flaw.the-variants.{Blank, Long, Low, NotUtf8}
 use Rattle.format.specs.Parse.{Out, fault, got}
 use Rattle.format.specs.Names.{readName}

@@ -1,7 +1,7 @@
 -- The writer's answer, and what the output and the work numbers hold afterwards (document 01, "The write list").
 use Prim.Native.Nat.{ℕ, _-_}
 use mathlib.Core.Bool.{_||_, cond}
-use mathlib.Core.List.{List, [], _∷_, _++_}
+use mathlib.Core.List.{List, _++_}
 use lib.ListN.{length, drop, replicate}
 use lib.Dec.{ltb}
 use Rattle.frames.specs.declared.Refusal.{Refusal}

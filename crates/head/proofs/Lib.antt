@@ -1,6 +1,7 @@
-pub mod AnswerLaws
+pub mod LeafLaws
 pub mod HeadLaws
-pub mod FrontCases
-pub mod HeadCases
-pub mod MeetCases
+pub mod HeadReturns
+pub mod MeetReturns
+pub mod ItemReturns
+pub mod MeetingLaws
 pub mod OneAnswer

@@ -4,22 +4,15 @@ use mathlib.Core.List.{List}
 use Rattle.number.proofs.OneAnswer.{One, one}
 use Rattle.format.specs.declared.Kind.{Kind}
 use Rattle.format.specs.declared.Form.{Form}
-use Rattle.format.specs.declared.Form.the-variants.{SharedField}
 use Rattle.faults.specs.declared.Modes.{Modes}
 use Rattle.faults.specs.declared.Faults.{Faults}
 use Rattle.head.specs.Pieces.{fixedSize}
-use Rattle.head.specs.Code.{frontAt, headAt, meetAt}
+use Rattle.head.specs.Code.{headAt, meetAt}
 
 pub fixed-size-one : (kind : Kind) → One (fixedSize kind)
 fixed-size-one kind = one (fixedSize kind)
 
 module _ (modes : Modes) (faults : Faults) (part : List ℕ) where
-  pub front-of-one : (form : Form) → One (frontAt form modes faults part)
-  front-of-one form = one (frontAt form modes faults part)
-
-  pub name-of-one : (kind : Kind) → One (frontAt (SharedField kind) modes faults part)
-  name-of-one kind = one (frontAt (SharedField kind) modes faults part)
-
   pub meet-of-one : (form : Form) → One (meetAt form modes faults part)
   meet-of-one form = one (meetAt form modes faults part)
 

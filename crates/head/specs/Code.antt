@@ -7,25 +7,13 @@ use Rattle.format.specs.declared.Form.{Form}
 use Rattle.format.specs.declared.Stop.{Stop}
 use Rattle.faults.specs.declared.Modes.{Modes}
 use Rattle.faults.specs.declared.Faults.{Faults}
-use Rattle.head.specs.declared.Front.{Front}
-use Rattle.head.specs.declared.Front.the-variants as F
-use Rattle.head.specs.declared.Heading.{Heading}
-use Rattle.head.specs.declared.Heading.the-variants as H
+use Rattle.leaves.specs.declared.Heading.{Heading}
+use Rattle.leaves.specs.declared.Heading.the-variants as H
 use Rattle.head.specs.declared.Met.{Met}
 use Rattle.head.specs.declared.Met.the-variants as M
-use Rattle.format.specs.Parse.{Out, fault, got, bind, make}
-use Rattle.faults.specs.Noted.{noted}
+use Rattle.format.specs.Parse.{Out, bind, make}
 use Rattle.format.specs.Payload.{front, Head, value, fieldsIn, itemsIn, head}
-
--- ---- an answer by what was read
-
-abbrev pub answerOf : {A B : Type 0} → (Stop → B) → (A → Faults → List ℕ → B) → Modes → Faults → Out A → B
-answerOf stop go m g (fault k) = stop k
-answerOf stop go m g (got a fs r) = go a (noted m g fs) r
-
--- what stands before a payload
-unfoldable pub frontAt : Form → Modes → Faults → List ℕ → Front
-frontAt f m g s = answerOf F.Stop (λ x h r. F.Read (x .1) (length s - length r - length (x .0)) (length s - length r) h) m g (front f s)
+use Rattle.front.specs.Code.{answerOf}
 
 -- a payload up to its contents
 abbrev pub headingOf : Head → Faults → ℕ → Heading

@@ -10,6 +10,7 @@ use lib.ListN.{length, take, drop, set, length-set}
 use lib.Seq.{sets, sets-eq}
 use lib.Dec.{eqb, ltb, leb}
 use borrow.Author.Tests.{lt-ltb, leb-true}
+use Rattle.number.proofs.Clash.{clash}
 use Rattle.frames.specs.Program.{Character, digit, lineFeed, another, character, Typed, typed, mistyped, first, typeOne, typeFrom, bytesTyped}
 use Rattle.hexadecimal.specs.declared.Typing.{Typing}
 use Rattle.hexadecimal.specs.Typing.{toldOf, told, Fed, afterwards, start, oneMore, put, fedSecond, fedBy, fedOne, onward, fed}
@@ -43,15 +44,15 @@ small-digit c d e = at (leb 0x30 c) refl (leb c 0x39) refl (leb 0x61 c) refl (le
         → cond (a₁ && a₂) (digit (c - 0x30)) (cond (a₃ && a₄) (digit (c - 0x61 + 10)) (cond a₅ lineFeed another)) ≡ digit d → d < 16
     at true i₁ true i₂ a₃ i₃ a₄ i₄ a₅ e = let z : c - 0x30 ≡ d = cc in omega (arith, leb-true c 0x39 i₂)
     at true i₁ false i₂ true i₃ true i₄ a₅ e = let z : c - 0x61 + 10 ≡ d = cc in omega (arith, leb-true c 0x66 i₄)
-    at true i₁ false i₂ true i₃ false i₄ true e = absurd (let z : _≡_ {A = ℕ} 0 1 = cc in omega arith)
-    at true i₁ false i₂ true i₃ false i₄ false e = absurd (let z : _≡_ {A = ℕ} 0 1 = cc in omega arith)
-    at true i₁ false i₂ false i₃ a₄ i₄ true e = absurd (let z : _≡_ {A = ℕ} 0 1 = cc in omega arith)
-    at true i₁ false i₂ false i₃ a₄ i₄ false e = absurd (let z : _≡_ {A = ℕ} 0 1 = cc in omega arith)
+    at true i₁ false i₂ true i₃ false i₄ true e = clash cc
+    at true i₁ false i₂ true i₃ false i₄ false e = clash cc
+    at true i₁ false i₂ false i₃ a₄ i₄ true e = clash cc
+    at true i₁ false i₂ false i₃ a₄ i₄ false e = clash cc
     at false i₁ a₂ i₂ true i₃ true i₄ a₅ e = let z : c - 0x61 + 10 ≡ d = cc in omega (arith, leb-true c 0x66 i₄)
-    at false i₁ a₂ i₂ true i₃ false i₄ true e = absurd (let z : _≡_ {A = ℕ} 0 1 = cc in omega arith)
-    at false i₁ a₂ i₂ true i₃ false i₄ false e = absurd (let z : _≡_ {A = ℕ} 0 1 = cc in omega arith)
-    at false i₁ a₂ i₂ false i₃ a₄ i₄ true e = absurd (let z : _≡_ {A = ℕ} 0 1 = cc in omega arith)
-    at false i₁ a₂ i₂ false i₃ a₄ i₄ false e = absurd (let z : _≡_ {A = ℕ} 0 1 = cc in omega arith)
+    at false i₁ a₂ i₂ true i₃ false i₄ true e = clash cc
+    at false i₁ a₂ i₂ true i₃ false i₄ false e = clash cc
+    at false i₁ a₂ i₂ false i₃ a₄ i₄ true e = clash cc
+    at false i₁ a₂ i₂ false i₃ a₄ i₄ false e = clash cc
 
 -- one character
 step-first : (c d n : ℕ) (l : List ℕ) → character c ≡ digit d → fedOne c (state n none) l ≡ afterwards (state n (some d)) l
@@ -86,7 +87,7 @@ stays (c ∷ s) t l = stays s t l
 -- typed
 on-typed : (s : List ℕ) (n : ℕ) (o : Option ℕ) (l bs : List ℕ) → n + length s < 2 ^ 64 → Small o → typeFrom s n o ≡ typed bs → fed s (state n o) l ≡ afterwards (state (n + length bs) none) (puts l n bs)
 on-typed [] n none l bs h i e = let z : bs ≡ [] = cc in let m : n ≡ n + 0 = omega arith in rw (z, ← m)
-on-typed [] n (some x) l bs h i e = absurd (let z : _≡_ {A = ℕ} 0 1 = cc in omega arith)
+on-typed [] n (some x) l bs h i e = clash cc
 on-typed (c ∷ s) n o l bs h i e = at (λ m q k vs. on-typed s m q k vs) (character c) refl o i e
   where
     Goal : Option ℕ → List ℕ → Type 0
@@ -101,7 +102,7 @@ on-typed (c ∷ s) n o l bs h i e = at (λ m q k vs. on-typed s m q k vs) (chara
         let m : suc n + length vs ≡ n + suc (length vs) = omega arith in
         let y : Goal (some x) ((x * 16 + d) ∷ vs) = rw (step-second c d n x l j i (omega arith), ← m) (ih (suc n) none (put l n (x * 16 + d)) vs (omega arith) tt w) in
         subst (Goal (some x)) z y
-    byte d x j i ih (mistyped p) w e = absurd (let z : _≡_ {A = ℕ} 0 1 = cc in omega arith)
+    byte d x j i ih (mistyped p) w e = clash cc
 
     at : ((m : ℕ) (q : Option ℕ) (k vs : List ℕ) → m + length s < 2 ^ 64 → Small q → typeFrom s m q ≡ typed vs → fed s (state m q) k ≡ afterwards (state (m + length vs) none) (puts k m vs))
         → (x : Character) → character c ≡ x → (o : Option ℕ) → Small o → typeOne n o x (λ m q. typeFrom s m q) ≡ typed bs → Goal o bs
@@ -109,8 +110,8 @@ on-typed (c ∷ s) n o l bs h i e = at (λ m q k vs. on-typed s m q k vs) (chara
     at ih (digit d) j (some x) i e = byte d x j i ih (typeFrom s (suc n) none) refl e
     at ih lineFeed j none i e = rw (step-feed c n none l j) (ih n none l bs (omega arith) i e)
     at ih lineFeed j (some x) i e = rw (step-feed c n (some x) l j) (ih n (some x) l bs (omega arith) i e)
-    at ih another j none i e = absurd (let z : _≡_ {A = ℕ} 0 1 = cc in omega arith)
-    at ih another j (some x) i e = absurd (let z : _≡_ {A = ℕ} 0 1 = cc in omega arith)
+    at ih another j none i e = clash cc
+    at ih another j (some x) i e = clash cc
 
 -- mistyped: at its place, with a digit at hand or at another character
 record Told (p : ℕ) (t : Typing) : Type 0 where
@@ -118,13 +119,13 @@ record Told (p : ℕ) (t : Typing) : Type 0 where
   open-or-wrong : (t .begun || t .wrong) ≡ true
 
 on-mistyped : (s : List ℕ) (n : ℕ) (o : Option ℕ) (l : List ℕ) (p : ℕ) → n + length s < 2 ^ 64 → Small o → typeFrom s n o ≡ mistyped p → Told p (fed s (state n o) l .typing)
-on-mistyped [] n none l p h i e = absurd (let z : _≡_ {A = ℕ} 0 1 = cc in omega arith)
+on-mistyped [] n none l p h i e = clash cc
 on-mistyped [] n (some x) l p h i e = record { place = cc; open-or-wrong = refl }
 on-mistyped (c ∷ s) n o l p h i e = at (λ m q k. on-mistyped s m q k p) (character c) refl o i e
   where
     byte : (d x : ℕ) → character c ≡ digit d → x < 16 → ((m : ℕ) (q : Option ℕ) (k : List ℕ) → m + length s < 2 ^ 64 → Small q → typeFrom s m q ≡ mistyped p → Told p (fed s (state m q) k .typing))
         → (r : Typed) → typeFrom s (suc n) none ≡ r → first (x * 16 + d) r ≡ mistyped p → Told p (onward (fed s) (fedOne c (state n (some x)) l) .typing)
-    byte d x j i ih (typed vs) w e = absurd (let z : _≡_ {A = ℕ} 0 1 = cc in omega arith)
+    byte d x j i ih (typed vs) w e = clash cc
     byte d x j i ih (mistyped q) w e = rw (step-second c d n x l j i (omega arith)) (ih (suc n) none (put l n (x * 16 + d)) (omega arith) tt (let z : q ≡ p = cc in w ∙ ap mistyped z))
 
     stopped : (o : Option ℕ) → character c ≡ another → n ≡ p → Told p (onward (fed s) (fedOne c (state n o) l) .typing)

@@ -1,5 +1,5 @@
 -- Typing on: what one more part of the text makes of what was typed before (document 01, "The write list", its last paragraph). `bytesTyped`, of the whole
--- text, is in format's Program.antt, and proofs/Parts.antt says that typing part by part gives it.
+-- text, is in frames' Program.antt, and proofs/Parts.antt says that typing part by part gives it.
 use Prim.Native.Nat.{ℕ, _+_, _-_, _*_, _%_, _^_}
 use mathlib.Core.Bool.{Bool, true, false, cond}
 use mathlib.Core.List.{List, [], _∷_}

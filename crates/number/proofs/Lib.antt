@@ -1,9 +1,11 @@
 pub mod BigEndianLaws
 pub mod ReachedLaws
 pub mod VarUIntLaws
+pub mod NumberThenLaws
 pub mod ReadLaws
 pub mod FixedLaws
 pub mod PutLaws
 pub mod SignedLaws
 pub mod MinusLaws
 pub mod OneAnswer
+pub mod Clash

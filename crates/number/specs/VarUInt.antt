@@ -44,6 +44,11 @@ unfoldable pub varUInt : List ℕ → VarUInt
 varUInt [] = Cut
 varUInt (b ∷ s) = answer (following b) b s
 
+-- what is made of a number that was read: of one that is cut, and of a value, its length and whether that is minimal
+abbrev pub numberThen : {B : Type 0} → B → (ℕ → ℕ → Bool → B) → VarUInt → B
+numberThen cut whole Cut = cut
+numberThen cut whole (Whole v n x) = whole v n x
+
 -- the form with n bytes behind the first
 abbrev pub form : ℕ → ℕ → List ℕ
 form n v = (lead n + v / 256 ^ n) ∷ toBytes n v

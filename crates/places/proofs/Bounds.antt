@@ -18,7 +18,7 @@ use Rattle.places.specs.declared.Step.the-variants.{Field, NoMore, Wrong
 use Rattle.places.specs.declared.Found.{Found}
 use Rattle.places.specs.declared.Found.the-variants as F
 use Rattle.format.specs.declared.Flaw.{Flaw}
-use Rattle.format.specs.Parse.{Out, fault, got, withFlaws, bind, fill}
+use Rattle.format.specs.Parse.{Out, fault, got, bind, fill}
 use Rattle.format.specs.Payload.{front, head}
 use Rattle.format.specs.Reader.{contents, readNode, read}
 use Rattle.places.specs.Places.{step, lookAt, lookFrom}
@@ -27,14 +27,11 @@ use Rattle.places.specs.Siblings.{placesAt, placesFrom, placesIn}
 use Rattle.format.proofs.Back.{never}
 use Rattle.format.proofs.Local.{bind-got, whole-got}
 use Rattle.format.proofs.HeadParts.{Full}
+use Rattle.head.proofs.MeetingLaws.{bind-same}
 use Rattle.places.proofs.FieldBytes.{Takes, field-takes}
-use Rattle.places.proofs.PassedPlaces.{behind, step-onward}
+use Rattle.places.proofs.StepFields.{behind, step-onward}
 
 -- ---- fields that fill a part: a reader that uses up a byte at least where it reads
-
-bind-same : {A B : Type 0} (o : Out A) (f g : A → List ℕ → Out B) → ((a : A) (fs : List Flaw) (r : List ℕ) → o ≡ got a fs r → f a r ≡ g a r) → bind o f ≡ bind o g
-bind-same (fault k) f g e = refl
-bind-same (got a fs r) f g e = ap (withFlaws fs) (e a fs r refl)
 
 fill-more : {A : Type 0} (p : List ℕ → Out A) → Takes p → (m n : ℕ) (s : List ℕ) → length s ≤ m → length s ≤ n → fill p n s ≡ fill p m s
 fill-more p t zero zero s h k = refl

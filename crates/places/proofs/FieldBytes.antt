@@ -39,6 +39,7 @@ use Rattle.format.proofs.Back.{never}
 use Rattle.format.proofs.KindLaws.{kind-inv}
 use Rattle.format.proofs.Local.{bind-got, raise-got, whole-got, local-number, local-le, number-takes, sized-got}
 use Rattle.format.proofs.HeadParts.{local-head, front-takes, Full}
+use Rattle.number.proofs.Clash.{clash}
 
 -- ---- a size and what it counts
 
@@ -196,7 +197,7 @@ takes-bytes : (n : ℕ) → 0 < n → (made : List ℕ → Leaf) → Takes (λ s
 takes-bytes n l made = takes-make value (λ s. make made (fixed n s)) (takes-make made (fixed n) (takes-fixed n l))
 
 bare-never : {X : Type 0} → true ≡ false → X
-bare-never h = absurd (let z : _≡_ {A = ℕ} 0 1 = cc in omega arith)
+bare-never h = clash (cc)
 
 head-takes : (k : Kind) (s : List ℕ) {h : Head} {fs : List Flaw} {r : List ℕ} → isBare k ≡ false → head k s ≡ got h fs r → length r < length s
 unfolding head payload isBare

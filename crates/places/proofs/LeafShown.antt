@@ -32,6 +32,7 @@ use Rattle.format.proofs.Lists.{append-nil}
 use Rattle.format.proofs.Local.{bind-got, raise-got, local-number}
 use Rattle.places.proofs.FieldBytes.{sized-read, fixed-got}
 use Rattle.places.proofs.Containers.{head-contained}
+use Rattle.number.proofs.Clash.{clash}
 
 -- ---- kind and view
 
@@ -81,10 +82,10 @@ float64-viewed s l = go (isNan64 (fromBytes s))
 pub leaf-viewed : (k : Kind) (s : List ℕ) (v : Leaf) (fs : List Flaw) → head k s ≡ got (value v) fs [] → Viewed k v (behindSize k s)
 unfolding head payload hasSize
 leaf-viewed Null s v fs e = value-got (got null [] s) e λ es i. let z : v ≡ null = cc in let y : s ≡ [] = cc in rw z (refl, y)
-leaf-viewed Object s v fs e = let i = head-contained Object s e .1 in absurd (let z : _≡_ {A = ℕ} 0 1 = cc in omega arith)
-leaf-viewed UniformObject s v fs e = let i = head-contained UniformObject s e .1 in absurd (let z : _≡_ {A = ℕ} 0 1 = cc in omega arith)
-leaf-viewed Array s v fs e = let i = head-contained Array s e .1 in absurd (let z : _≡_ {A = ℕ} 0 1 = cc in omega arith)
-leaf-viewed UniformArray s v fs e = let i = head-contained UniformArray s e .1 in absurd (let z : _≡_ {A = ℕ} 0 1 = cc in omega arith)
+leaf-viewed Object s v fs e = let i = head-contained Object s e .1 in clash (cc)
+leaf-viewed UniformObject s v fs e = let i = head-contained UniformObject s e .1 in clash (cc)
+leaf-viewed Array s v fs e = let i = head-contained Array s e .1 in clash (cc)
+leaf-viewed UniformArray s v fs e = let i = head-contained UniformArray s e .1 in clash (cc)
 leaf-viewed Binary s v fs e = value-got (make binary (sized rest s)) e λ es i. made-got binary (sized rest s) i λ b gs j z. sized-read rest s j λ w t hs m _ _ d _.
     let y : t ≡ b = cc in
     rw z (refl, d ∙ append-nil t ∙ y)

@@ -8,12 +8,15 @@ pub mod ReadPlaces
 pub mod Steps
 pub mod Showing
 pub mod WalkFacts
+pub mod PlacedLaws
 pub mod TopCases
 pub mod Walk
 pub mod WalkExample
 pub mod PinnedPlaces
 pub mod PassedPlaces
+pub mod StepFields
 pub mod Siblings
 pub mod SiblingsExample
 pub mod Views
 pub mod Bounds
+pub mod OneAnswer

@@ -37,7 +37,7 @@ use Rattle.format.specs.Kinds.{known, isBare, hasSize}
 use Rattle.format.specs.Parse.{readVarUInt, fixed}
 use Rattle.format.specs.Names.{isEmpty}
 use Rattle.format.specs.Payload.{front, head, payload}
-use Rattle.places.specs.Places.{check, checked, meet, top, step, part, lookup}
+use Rattle.places.specs.Places.{placeWith, check, checked, meet, top, step, part, lookup}
 use Rattle.places.specs.Values.{double, signed, unsigned, ticks}
 
 -- a payload of n bytes, as one number
@@ -46,7 +46,7 @@ of n v = toBytes n v
 
 -- kind, start, end and depth
 abbrev at : ℕ → ℕ → ℕ → ℕ → Place
-at k a e d = record { kind = k; start = a; end = e; depth = d }
+at k a e d = placeWith k a e d
 
 -- of the last place only the end counts
 abbrev last : ℕ → After

@@ -28,7 +28,9 @@ use Rattle.format.proofs.Lists.{all-of}
 use Rattle.places.proofs.Steps.{walk-few}
 use Rattle.places.proofs.WalkFacts.{walk-each, walk-ranges, walk-fills, walk-apart}
 use Rattle.places.proofs.Walk.{every-field-shown, every-field-reached}
-use Rattle.places.proofs.PassedPlaces.{check-passed, wrong-leaf}
+use Rattle.places.proofs.PassedPlaces.{check-passed}
+use Rattle.places.proofs.StepFields.{wrong-leaf}
+use Rattle.number.proofs.Clash.{clash}
 
 -- ---- a walk's places are those that steps meet
 
@@ -127,7 +129,7 @@ reached {X} s h t e path name c p k =
     at (fieldAt path depthLimit ([], (i .kind, i .layout))) (rw (i .was-read)) (placeAt path s ([], i .place)) (ap (λ q. placeAt path s ([], q)) (sym z) ∙ p) (every-field-reached s i path)
   where
     at : (o : Option Reached) → fieldIn path s ≡ o → (q : Option (Named Place)) → q ≡ some (name, c) → Agree s o q → X
-    at none f none g a = absurd (let z : _≡_ {A = ℕ} 0 1 = cc in omega arith)
+    at none f none g a = clash (cc)
     at none f (some q) g a = absurd a
     at (some x) f none g a = absurd a
     at (some x) f (some q) g a =

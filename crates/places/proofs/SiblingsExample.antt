@@ -10,7 +10,7 @@ use Rattle.format.specs.Kinds.{known, isBare, hasSize}
 use Rattle.format.specs.Parse.{readVarUInt, fixed}
 use Rattle.format.specs.Names.{isEmpty}
 use Rattle.format.specs.Payload.{front, head, payload}
-use Rattle.places.specs.Places.{check, meet, step, part, view}
+use Rattle.places.specs.Places.{placeWith, check, meet, step, part, view}
 use Rattle.places.specs.Contents.{contentsStart}
 use Rattle.places.specs.Stepping.{ranges}
 use Rattle.places.specs.Siblings.{placesIn}
@@ -19,9 +19,9 @@ abbrev alice : List ℕ
 alice = 0x02 ∷ 0x12 ∷ 0xc7 ∷ 0x04 ∷ 0x6e ∷ 0x61 ∷ 0x6d ∷ 0x65 ∷ 0x05 ∷ 0x41 ∷ 0x6c ∷ 0x69 ∷ 0x63 ∷ 0x65 ∷ 0xc8 ∷ 0x03 ∷ 0x61 ∷ 0x67 ∷ 0x65 ∷ 0x1e ∷ []
 
 abbrev aliceTop : Place
-aliceTop = record { kind = 0x02; start = 1; end = 20; depth = 1 }
+aliceTop = placeWith 0x02 1 20 1
 
-pub alice-places : placesIn alice aliceTop ≡ record { kind = 0x07; start = 8; end = 14; depth = 2 } ∷ record { kind = 0x08; start = 19; end = 20; depth = 2 } ∷ []
+pub alice-places : placesIn alice aliceTop ≡ placeWith 0x07 8 14 2 ∷ placeWith 0x08 19 20 2 ∷ []
 unfolding varUInt isText due known isBare readVarUInt fixed isEmpty front head payload check meet step placesIn
 alice-places = refl
 
@@ -34,7 +34,7 @@ abbrev numbers : List ℕ
 numbers = 0x05 ∷ 0x05 ∷ 0x03 ∷ 0x08 ∷ 0x01 ∷ 0x02 ∷ 0x03 ∷ []
 
 abbrev numbersTop : Place
-numbersTop = record { kind = 0x05; start = 1; end = 7; depth = 1 }
+numbersTop = placeWith 0x05 1 7 1
 
 pub numbers-part : part numbers numbersTop ≡ At 2 7
 unfolding varUInt known isBare hasSize readVarUInt head payload check part

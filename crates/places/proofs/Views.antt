@@ -47,6 +47,7 @@ use Rattle.places.proofs.ReadPlaces.{size-le}
 use Rattle.places.proofs.Steps.{walk-few}
 use Rattle.places.proofs.PassedPlaces.{check-passed, slice-part}
 use Rattle.places.proofs.Siblings.{reached}
+use Rattle.number.proofs.Clash.{clash}
 
 -- ---- any payload and any place, forged or not
 
@@ -57,7 +58,7 @@ refused-view s p k h = at (check s p) h
   where
     at : (o : Out Head) → checkedOf o ≡ C.Fault k → (partOf s p o ≡ P.Fault k) × (viewOf s (partOf s p o) ≡ [])
     at (fault j) h = let z : j ≡ k = cc in (ap P.Fault z, refl)
-    at (got x fs r) h = absurd (let z : _≡_ {A = ℕ} 0 1 = cc in omega arith)
+    at (got x fs r) h = clash (cc)
 
 -- the name that a step meets is a part of the payload, up to the field's start; any other answer of the step has an empty one
 pub name-viewed : (s : List ℕ) (c : Place) (last : After) (q : Place) (a : ℕ) → step s c last ≡ Field q a → nameView s c last ≡ slice a (q .start) s
@@ -87,7 +88,7 @@ unfolding checked part view
 good-view s p h = at (check s p) refl h
   where
     at : (o : Out Head) → check s p ≡ o → checkedOf o ≡ C.Good → GoodView s p
-    at (fault k) e h = absurd (let z : _≡_ {A = ℕ} 0 1 = cc in omega arith)
+    at (fault k) e h = clash (cc)
     at (got x fs r) e h =
         let i = check-passed s p e in
         let n = sizeLength (known (p .kind)) (slice (p .start) (p .end) s) in
@@ -162,7 +163,7 @@ unfolding checked
 good-check {X} s c g k = at (check s c) refl g
   where
     at : (o : Out Head) → check s c ≡ o → checkedOf o ≡ C.Good → X
-    at (fault j) e h = absurd (let z : _≡_ {A = ℕ} 0 1 = cc in omega arith)
+    at (fault j) e h = clash (cc)
     at (got h fs r) e g = k h fs r e
 
 array-size : (k : Kind) → (k ≡ Array) ⊎ (k ≡ UniformArray) → hasSize k ≡ true

@@ -27,6 +27,7 @@ use Rattle.places.specs.Stepping.{nth, fieldsOf, onward, fieldAt, stepTo
 use Rattle.format.proofs.Lists.{all-of}
 use Rattle.places.proofs.Parts.{slice-join}
 use Rattle.places.proofs.Steps.{walk-few}
+use Rattle.number.proofs.Clash.{clash}
 
 module _ {A : Type 0} (P : Place → Standing A → Type 0) (s : List ℕ) (c : Place) (how : Payload) where
   pub walk-each : (a : ℕ) (l : After) (ps : List Place) (xs : List (Named (Standing A))) → Walk P s c how a l ps xs → length ps ≡ length xs
@@ -145,7 +146,7 @@ path-agrees (j ∷ js) (suc d) s x q e i = on (nth j (fieldsOf (x .1 .1))) (step
 -- ---- the first of a name
 
 at-never : {X : Type 0} {q : Place} → F.At q ≡ F.NotThere → X
-at-never h = absurd (let z : _≡_ {A = ℕ} 0 1 = cc in omega arith)
+at-never h = clash (cc)
 
 none-in : {A : Type 0} (m : List ℕ) (ps : List Place) (xs : List (Named A)) → length ps ≡ length xs → firstOf m ps xs ≡ F.NotThere → All (λ x. x .0 ≡ m → ⊥) xs
 none-in m [] [] l h = tt

@@ -1,4 +1,5 @@
 pub mod Places
+pub mod Placed
 pub mod Contents
 pub mod Values
 pub mod Show

@@ -55,10 +55,15 @@ checkedOf (got h fs r) = C.Good
 unfoldable pub checked : List ℕ → Place → Checked
 checked s p = checkedOf (check s p)
 
+-- ---- a place: every one is made here
+
+abbrev pub placeWith : ℕ → ℕ → ℕ → ℕ → Place
+placeWith i a e d = record { kind = i; start = a; end = e; depth = d }
+
 -- ---- a field met at a depth, up to its contents. The bytes at hand end at e, so what is left of them, r, starts at e - length r
 
 abbrev pub placeOf : ℕ → ℕ → Kind → List ℕ → List ℕ → Place
-placeOf depth e k s r = record { kind = id k; start = e - length s; end = e - length r; depth = depth }
+placeOf depth e k s r = placeWith (id k) (e - length s) (e - length r) depth
 
 -- its name and its place
 abbrev pub met : ℕ → ℕ → Form → List ℕ → Out (List ℕ × Place)
@@ -162,7 +167,3 @@ lookIn s c m (got (fieldsIn f b) fs r) = lookFrom (suc (c .end)) s c m Start
 
 unfoldable pub lookup : List ℕ → Place → List ℕ → Found
 lookup s c m = lookIn s c m (check s c)
-
--- the top place, by where its payload was met
-abbrev pub topAt : Kind → ℕ → ℕ → Top
-topAt k a e = T.At (record { kind = id k; start = a; end = e; depth = 1 })

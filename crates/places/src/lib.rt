@@ -5,7 +5,8 @@ use format::Kind;
 use format::Stop;
 use head::Met;
 ghost use mathlib.Core.Path.{_≡_};
-ghost use Rattle.places.specs.Places.{top, topAt};
+ghost use Rattle.places.specs.Places.{placeWith, top};
+ghost use Rattle.places.specs.Placed.{placedBy, placed};
 
 // Where a field stands ("Places, views and values"): its kind, where its payload starts and ends, and its depth. A place may be forged.
 pub struct Place {
@@ -32,47 +33,73 @@ impl Place {
             names: false,
             format: false,
         };
-        match head::meet_of(payload, Form::Top, modes, faults::no_faults()) {
-            Met::Stop(stop) => Top::Fault(stop),
-            Met::Leaf {
-                kind,
-                name: _,
-                start,
-                end,
-                faults: _,
-            } => top_at(kind, start, end),
-            Met::Fields {
-                kind,
-                name: _,
-                start,
-                form: _,
-                begin: _,
-                end,
-                faults: _,
-            } => top_at(kind, start, end),
-            Met::Items {
-                kind,
-                name: _,
-                start,
-                form: _,
-                count: _,
-                begin: _,
-                end,
-                faults: _,
-            } => top_at(kind, start, end),
+        match placed(
+            head::meet_of(payload, Form::Top, modes, faults::no_faults()),
+            1,
+        ) {
+            Field::Stop(stop) => Top::Fault(stop),
+            Field::Is(place, _) => Top::At(place),
+        }
+    }
+
+    // Every place is made here.
+    pub fn of(kind: u8, start: usize, end: usize, depth: u32) -> Place
+        ensures { λ r. ⌜ r ≡ placeWith kind start end depth ⌝ }
+    {
+        Place {
+            kind: kind,
+            start: start,
+            end: end,
+            depth: depth,
         }
     }
 }
 
-fn top_at(kind: Kind, start: usize, end: usize) -> Top
-    ensures { λ r. ⌜ r ≡ topAt kind start end ⌝ }
+// A field that is met: its place, and where its name begins (it ends where the payload starts).
+pub enum Field {
+    Stop(Stop),
+    Is(Place, usize),
+}
+
+fn placed_by(kind: Kind, name: usize, start: usize, end: usize, depth: u32) -> Field
+    ensures { λ r. ⌜ r ≡ placedBy kind name start end depth ⌝ }
 {
-    Top::At(Place {
-        kind: format::id_of(kind),
-        start: start,
-        end: end,
-        depth: 1,
-    })
+    Field::Is(Place::of(format::id_of(kind), start, end, depth), name)
+}
+
+// The field that was met, at a depth.
+pub fn placed(met: Met, depth: u32) -> Field
+    ensures { λ r. ⌜ r ≡ placed depth met ⌝ }
+{
+    match met {
+        Met::Stop(stop) => Field::Stop(stop),
+        Met::Leaf {
+            kind,
+            name,
+            start,
+            end,
+            faults: _,
+        } => placed_by(kind, name, start, end, depth),
+        Met::Fields {
+            kind,
+            name,
+            start,
+            form: _,
+            begin: _,
+            end,
+            faults: _,
+        } => placed_by(kind, name, start, end, depth),
+        Met::Items {
+            kind,
+            name,
+            start,
+            form: _,
+            count: _,
+            begin: _,
+            end,
+            faults: _,
+        } => placed_by(kind, name, start, end, depth),
+    }
 }
 
 // The last place that a step gave, or none.

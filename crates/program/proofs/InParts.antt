@@ -14,9 +14,9 @@ use Rattle.hexadecimal.specs.Typing.{Fed, afterwards, start, onward, fed}
 use Rattle.hexadecimal.proofs.Parts.{parts}
 use Rattle.program.specs.declared.Reading.{Reading}
 use Rattle.program.specs.declared.Reading.the-variants as R
-use Rattle.program.specs.Answer.{isRefused, Answered, answeredOf, answered}
+use Rattle.answers.specs.Answer.{isRefused, Answered, answeredOf, answered}
 use Rattle.program.specs.Input.{fedParts, joined, Reached, Heard, statusOf, Ran}
-use Rattle.program.proofs.Input.{text-of, length-of, in-whole}
+use Rattle.answers.proofs.WholeInput.{text-of, length-of, in-whole}
 
 -- parts one after the other are the whole
 fed-joined : (ss : List (List ℕ)) (t : Typing) (l : List ℕ) → fedParts ss t l ≡ fed (joined ss) t l
@@ -53,7 +53,8 @@ length-last [] s = omega (arith, length-append s [])
 length-last (x ∷ ss) s = omega (arith, length-append x (joined (ss ++ (s ∷ []))), length-append x (joined ss), length-last ss s)
 
 -- one part more, while all can be counted
-reached-on : (before : List ℕ) (t : Typing) (l : List ℕ) (c : Reached before t l) (s : List ℕ) (r : Typing) (k : List ℕ) → length (joined (c .parts)) + length s < 2 ^ 64
+reached-on : (before : List ℕ) (t : Typing) (l : List ℕ) (c : Reached before t l) (s : List ℕ) (r : Typing) (k : List ℕ)
+    → length (joined (c .parts)) + length s < 2 ^ 64
     → afterwards r k ≡ fed s t l → (d : Reached before r k) × (length (joined (d .parts)) ≡ length (joined (c .parts)) + length s)
 reached-on before t l c s r k h e =
     let n = length-last (c .parts) s in
@@ -61,7 +62,8 @@ reached-on before t l c s r k h e =
 
 -- of at most as many bytes as are left
 pub reached-more : (before : List ℕ) (t : Typing) (l : List ℕ) (c : Reached before t l) (n left : ℕ) (chunk : List ℕ) (r : Typing) (k : List ℕ)
-    → length (joined (c .parts)) + left < 2 ^ 64 → n ≤ left → afterwards r k ≡ fed (take n chunk) t l → (d : Reached before r k) × (length (joined (d .parts)) + (left - n) < 2 ^ 64)
+    → length (joined (c .parts)) + left < 2 ^ 64 → n ≤ left → afterwards r k ≡ fed (take n chunk) t l
+    → (d : Reached before r k) × (length (joined (d .parts)) + (left - n) < 2 ^ 64)
 reached-more before t l c n left chunk r k h m e =
     let few : length (take n chunk) ≤ n = omega (arith, length-take n chunk) in
     let d = reached-on before t l c (take n chunk) r k (omega arith) e in
@@ -101,7 +103,8 @@ ran-is before t l c room text o w a f status (inl e) =
       parts = c .parts;
       rest = drop (length (program (joined (c .parts)))) text;
       text-is = ap (λ (b : Answered). b .text) from ∙ what-is-printed (c .parts) before text o w (c .few) room;
-      status-is = e ∙ ap (λ (b : Answered). cond (b .answer .refused) 1 0) (from ∙ in-parts (c .parts) before text o w (c .few) room) ∙ status-of (bytesTyped (joined (c .parts))) text o w;
+      status-is = e ∙ ap (λ (b : Answered). cond (b .answer .refused) 1 0) (from ∙ in-parts (c .parts) before text o w (c .few) room)
+          ∙ status-of (bytesTyped (joined (c .parts))) text o w;
     })
   where
     from : a ≡ answered (fedParts (c .parts) start before .typing) (fedParts (c .parts) start before .list) text o w

@@ -1,5 +1,1 @@
-pub mod TextLaws
-pub mod AnswerLaws
-pub mod Input
 pub mod InParts
-pub mod OneAnswer

@@ -1,8 +1,6 @@
-pub mod OpenLaws
 pub mod FieldLaws
 pub mod StepLaws
 pub mod ViewLaws
-pub mod ValueLaws
 pub mod LookLaws
 pub mod OneAnswer
 pub mod AnyStep

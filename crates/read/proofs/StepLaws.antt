@@ -1,12 +1,10 @@
 -- A step: what the code knows at each return.
 use Prim.Native.Nat.{ℕ, _+_, _-_, _≤_, _<_}
 use native.Mathlib.Omega.{arith}
-use mathlib.Core.Path.{_≡_, refl, sym, ap, _∙_, subst}
-use mathlib.Core.Bool.{_||_, cond}
-use mathlib.Core.List.{List, [], _∷_}
+use mathlib.Core.Path.{_≡_, refl, sym, ap, _∙_}
+use mathlib.Core.List.{List}
 use lib.ListN.{length}
 use lib.Seq.{slice, length-slice}
-use lib.Dec.{eqb, ltb}
 use borrow.Author.Tests.{lt-ltb, le-ltb, eq-eqb, ne-eqb}
 use Rattle.format.specs.declared.Form.{Form}
 use Rattle.format.specs.declared.Stop.{Stop}
@@ -18,37 +16,23 @@ use Rattle.places.specs.declared.Place.{Place}
 use Rattle.places.specs.declared.After.{After}
 use Rattle.places.specs.declared.Step.{Step}
 use Rattle.places.specs.declared.Step.the-variants as St
-use Rattle.format.specs.Limits.{depthLimit, lengthLimit}
+use Rattle.format.specs.Limits.{depthLimit}
 use Rattle.format.specs.Parse.{Out, fault, got}
 use Rattle.format.specs.Payload.{Head, value, fieldsIn, itemsIn}
-use Rattle.places.specs.Places.{check, met, meet, stepOf, from, stepIn, stepFrom, step}
+use Rattle.places.specs.Places.{check, placeWith, met, meet, stepOf, from, stepIn, stepFrom, step}
 use Rattle.head.specs.Code.{meetAt}
-use Rattle.head.specs.Pieces.{between}
-use Rattle.read.specs.declared.Opened.{Opened}
-use Rattle.read.specs.declared.Opened.the-variants as O
-use Rattle.read.specs.declared.Field.{Field}
-use Rattle.read.specs.declared.Field.the-variants as D
-use Rattle.read.specs.Code.{openedBy, fieldOf, fieldIn, fieldAt}
-use Rattle.read.proofs.OpenLaws.{slice-is}
-use Rattle.read.proofs.FieldLaws.{moved, field-met, field-in, Inside}
-
--- ---- the field at a position
-
-module _ (d a : ℕ) (f : Form) (m : Modes) (g : Faults) (s : List ℕ) (w : Met) (j : w ≡ meetAt f m g s) (x : Field) (i : x ≡ fieldOf d w) where
-  met-is : (y : Field) → x ≡ y → moved a d y ≡ fieldAt d a f s
-  met-is y z = ap (moved a d) (sym z ∙ i ∙ ap (fieldOf d) j) ∙ field-met d a f m g s
-
-  pub field-stop : (k : Stop) → x ≡ D.Stop k → D.Stop k ≡ fieldAt d a f s
-  field-stop k z = met-is (D.Stop k) z
-
-  module _ (p : Place) (n : ℕ) (z : x ≡ D.Is p n) where
-    pub field-is : D.Is (record { kind = p .kind; start = a + p .start; end = a + p .end; depth = d }) (a + n) ≡ fieldAt d a f s
-    field-is = met-is (D.Is p n) z
-
-    pub field-inside : Inside f s p n
-    field-inside = field-in d f m g s p n (sym (ap (fieldOf d) j) ∙ sym i ∙ z)
-
--- ---- a step in contents that were opened
+use Rattle.front.specs.Between.{between}
+use Rattle.open.specs.declared.Opened.{Opened}
+use Rattle.open.specs.declared.Opened.the-variants as O
+use Rattle.places.specs.declared.Field.{Field}
+use Rattle.places.specs.declared.Field.the-variants as D
+use Rattle.places.specs.Placed.{placed, fieldIn}
+use Rattle.places.proofs.PlacedLaws.{placed-met}
+use Rattle.places.proofs.StepFields.{Along, met-along}
+use Rattle.open.specs.Opening.{openedBy}
+use Rattle.read.specs.Code.{fieldAt}
+use Rattle.open.proofs.OpenLaws.{slice-is}
+use Rattle.read.proofs.FieldLaws.{moved, field-met}
 
 abbrev stepBy : Field → Step
 stepBy (D.Stop k) = St.Fault k
@@ -57,6 +41,22 @@ stepBy (D.Is p n) = St.Field p n
 step-same : (o : Out (List ℕ × Place)) → stepBy (fieldIn o) ≡ stepOf o
 step-same (fault k) = refl
 step-same (got x fs r) = refl
+
+-- ---- the field at a position
+
+module _ (d a : ℕ) (f : Form) (m : Modes) (g : Faults) (s : List ℕ) (w : Met) (j : w ≡ meetAt f m g s) (x : Field) (i : x ≡ placed d w) where
+  pub field-is : (y : Field) → x ≡ y → moved a d y ≡ fieldAt d a f s
+  field-is y z = ap (moved a d) (sym z ∙ i ∙ ap (placed d) j) ∙ field-met d a f m g s
+
+  pub field-inside : (p : Place) (n : ℕ) → x ≡ D.Is p n → Along f d (length s - length s) (length s) p n
+  field-inside p n z =
+      met-along d (length s) f s p n (omega arith)
+      (sym (step-same (met d (length s) f s)) ∙ ap stepBy (sym (placed-met d f m g s) ∙ sym (ap (placed d) j) ∙ sym i ∙ z))
+
+  pub field-at-is : (p : Place) (n : ℕ) → x ≡ D.Is p n → (q : Place) → q ≡ placeWith (p .kind) (a + p .start) (a + p .end) d → D.Is q (a + n) ≡ fieldAt d a f s
+  field-at-is p n z q h = ap (λ r. D.Is r (a + n)) h ∙ field-is (D.Is p n) z
+
+-- ---- a step in contents that were opened
 
 module _ (s : List ℕ) (c : Place) (f : Form) (begin at : ℕ) where
   pub step-before : at < begin → St.Fault Early ≡ stepIn s c f begin at
@@ -81,7 +81,8 @@ module _ (s : List ℕ) (c : Place) (f : Form) (begin at : ℕ) where
           step-met y z =
               let l : at + length (slice at (c .end) s) ≡ c .end = omega (arith, length-slice at (c .end) s inside) in
               let w : y ≡ fieldIn (met (c .depth + 1) (c .end) f (slice at (c .end) s)) = rw (← slice-is at (c .end) s, l) at (sym z ∙ i) in
-              rw (le-ltb at begin first, le-ltb (c .end) at last, ne-eqb at (c .end) more, le-ltb depthLimit (c .depth + 1) (omega arith)) (ap stepBy w ∙ step-same (met (c .depth + 1) (c .end) f (slice at (c .end) s)))
+              rw (le-ltb at begin first, le-ltb (c .end) at last, ne-eqb at (c .end) more, le-ltb depthLimit (c .depth + 1) (omega arith))
+              (ap stepBy w ∙ step-same (met (c .depth + 1) (c .end) f (slice at (c .end) s)))
 
           pub step-stop : (k : Stop) → x ≡ D.Stop k → St.Fault k ≡ stepIn s c f begin at
           step-stop k z = step-met (D.Stop k) z

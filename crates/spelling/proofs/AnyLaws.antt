@@ -1,9 +1,8 @@
 -- A test that some element of a list meets: of lists put together and mapped, and which element it is.
-use Prim.Native.Nat.{ℕ}
-use native.Mathlib.Omega.{arith}
 use mathlib.Core.Path.{_≡_, refl, ap}
 use mathlib.Core.Bool.{Bool, true, false, _||_, or-true, or-assoc}
 use mathlib.Core.List.{List, [], _∷_, _++_, map}
+use Rattle.number.proofs.Clash.{clash}
 use Rattle.format.specs.Kinds.{any}
 use Rattle.spelling.specs.Flawed.{flatMap}
 use Rattle.spelling.specs.FlawTable.{In}
@@ -40,7 +39,7 @@ any-none t h (x ∷ xs) = rw (h x, any-none t h xs)
 -- ---- one of them
 
 pub any-in : {A : Type 0} (t : A → Bool) (xs : List A) → any t xs ≡ true → (x : A) × In x xs × (t x ≡ true)
-any-in t [] h = absurd (let z : _≡_ {A = ℕ} 0 1 = cc in omega arith)
+any-in t [] h = clash cc
 any-in {A} t (x ∷ xs) h = go (t x) refl (any-in t xs) h
   where
     go : (b : Bool) → t x ≡ b → (any t xs ≡ true → (y : A) × In y xs × (t y ≡ true)) → (b || any t xs) ≡ true → (y : A) × In y (x ∷ xs) × (t y ≡ true)

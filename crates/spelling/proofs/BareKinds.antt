@@ -3,44 +3,29 @@ use Prim.Native.Nat.{ℕ}
 use native.Mathlib.Omega.{arith}
 use mathlib.Core.Path.{_≡_, refl}
 use mathlib.Core.Logic.{_↔_, inl, inr}
-use mathlib.Core.Bool.{Bool, true, false}
+use mathlib.Core.Bool.{Bool, true, false, _||_}
+use Rattle.number.proofs.Clash.{clash}
 use Rattle.format.specs.declared.Kind.{Kind}
-use Rattle.format.specs.declared.Kind.the-variants.{Null, Object, UniformObject, Array, UniformArray, Binary, String, IntegerPositive, IntegerNegative, Float32, Float64, False, True, ObjectAttachment, BinaryAttachment, Hash, Uuid, DateTime, TimeSpan, ObjectId, CustomById, CustomByName}
-use Rattle.format.specs.Kinds.{isBare}
+use Rattle.format.specs.declared.Kind.the-variants.{Null, False, True}
+use Rattle.format.specs.Kinds.{same, isBare}
+use Rattle.format.proofs.KindLaws.{same-eq}
 use Rattle.spelling.specs.Spells.{Bare}
 
 pub bare-exactly : (j : Kind) → (isBare j ≡ true) ↔ Bare j
 unfolding isBare
-bare-exactly j = (to j, from)
+bare-exactly j = (to, from)
   where
     fails : {X : Type 0} → false ≡ true → X
-    fails h = absurd (let z : _≡_ {A = ℕ} 0 1 = cc in omega arith)
+    fails h = clash cc
 
-    to : (j : Kind) → isBare j ≡ true → Bare j
-    to = elim [
-      | Null ↦ λ h. inl refl
-      | Object ↦ λ h. fails h
-      | UniformObject ↦ λ h. fails h
-      | Array ↦ λ h. fails h
-      | UniformArray ↦ λ h. fails h
-      | Binary ↦ λ h. fails h
-      | String ↦ λ h. fails h
-      | IntegerPositive ↦ λ h. fails h
-      | IntegerNegative ↦ λ h. fails h
-      | Float32 ↦ λ h. fails h
-      | Float64 ↦ λ h. fails h
-      | False ↦ λ h. inr (inl refl)
-      | True ↦ λ h. inr (inr refl)
-      | ObjectAttachment ↦ λ h. fails h
-      | BinaryAttachment ↦ λ h. fails h
-      | Hash ↦ λ h. fails h
-      | Uuid ↦ λ h. fails h
-      | DateTime ↦ λ h. fails h
-      | TimeSpan ↦ λ h. fails h
-      | ObjectId ↦ λ h. fails h
-      | CustomById ↦ λ h. fails h
-      | CustomByName ↦ λ h. fails h
-    ]
+    by : (x y z : Bool) → same j Null ≡ x → same j False ≡ y → same j True ≡ z → (x || (y || (z || false))) ≡ true → Bare j
+    by true y z e f g h = inl (same-eq j Null e)
+    by false true z e f g h = inr (inl (same-eq j False f))
+    by false false true e f g h = inr (inr (same-eq j True g))
+    by false false false e f g h = fails h
+
+    to : isBare j ≡ true → Bare j
+    to h = by (same j Null) (same j False) (same j True) refl refl refl h
 
     from : Bare j → isBare j ≡ true
     from (inl e) = rw e

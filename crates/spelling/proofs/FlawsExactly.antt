@@ -1,7 +1,6 @@
 -- The tests of specs/Flawed.antt come to what document 01's table says (specs/FlawTable.antt), flaw by flaw; and so a flaw is met exactly if some field of
 -- the layout has it.
 use Prim.Native.Nat.{ℕ, _^_, _≤_}
-use native.Mathlib.Omega.{arith}
 use mathlib.Core.Path.{_≡_, refl, sym, ap, subst, _∙_}
 use mathlib.Core.Logic.{_↔_, _⊎_, inl, inr}
 use mathlib.Core.Bool.{Bool, true, false, not, _&&_, _||_, or-true}
@@ -9,6 +8,7 @@ use mathlib.Core.List.{List, [], _∷_, _++_}
 use lib.Dec.{ltb}
 use lib.IntN.{pos, negsuc}
 use borrow.Author.Tests.{ltb-false, le-ltb, not-true}
+use Rattle.number.proofs.Clash.{clash}
 use Rattle.number.specs.BigEndian.{All}
 use Rattle.text.specs.Utf8.{isText}
 use Rattle.text.specs.Equal.{equal}
@@ -38,7 +38,7 @@ use Rattle.spelling.proofs.FlawsMet.{met-is-flawed}
 
 -- a test that fails
 fails : {X : Type 0} → false ≡ true → X
-fails h = absurd (let z : _≡_ {A = ℕ} 0 1 = cc in omega arith)
+fails h = clash cc
 
 either : (a b : Bool) → (a || b) ≡ true → (a ≡ true) ⊎ (b ≡ true)
 either true b h = inl refl

@@ -4,7 +4,7 @@ use native.Mathlib.Omega.{arith}
 use mathlib.Core.Path.{_≡_, refl, sym, ap, subst, _∙_}
 use mathlib.Core.Logic.{_⊎_, inl, inr}
 use mathlib.Core.Bool.{Bool, true, false, not, cond}
-use mathlib.Core.List.{List, [], _∷_, _++_, append-assoc}
+use mathlib.Core.List.{List, [], _∷_, _++_}
 use lib.ListN.{length, take, drop, length-append, take-append-drop}
 use lib.Seq.{take-at, drop-at, length-take-le}
 use lib.Dec.{ltb}
@@ -18,7 +18,7 @@ use Rattle.format.specs.Parse.{Out, fault, got, withFlaws, bind, raise, make, w
 use Rattle.spelling.specs.Spells.{anyForm}
 use Rattle.spelling.specs.Halts.{OrBehind, SizeCut, NumberHalts, BytesHalt, SizedHalts}
 use Rattle.format.proofs.Back.{never}
-use Rattle.format.proofs.Lists.{append-nil, bytes-right}
+use Rattle.format.proofs.Lists.{bytes-right}
 use Rattle.spelling.proofs.Grammar.{Front}
 use Rattle.spelling.proofs.SpelledNumbers.{Any, any-number}
 
@@ -55,21 +55,6 @@ raise-fault false f o h = h
 pub raise-never : {A X : Type 0} (x : Bool) (f : Flaw) (a : A) (r : List ℕ) {k : Stop} → raise x f (got a [] r) ≡ fault k → X
 raise-never true f a r h = never (sym h)
 raise-never false f a r h = never (sym h)
-
-with-with : {A : Type 0} (fs gs : List Flaw) (o : Out A) → withFlaws fs (withFlaws gs o) ≡ withFlaws (fs ++ gs) o
-with-with [] gs o = refl
-with-with (f ∷ fs) [] o = ap (λ l. withFlaws l o) (sym (append-nil (f ∷ fs)))
-with-with (f ∷ fs) (g ∷ gs) (fault k) = refl
-with-with (f ∷ fs) (g ∷ gs) (got a hs r) = ap (λ l. got a (f ∷ l) r) (sym (append-assoc fs (g ∷ gs) hs))
-
-pub bind-bind : {A B C : Type 0} (o : Out A) (g : A → List ℕ → Out B) (h : B → List ℕ → Out C) → bind (bind o g) h ≡ bind o (λ a r. bind (g a r) h)
-bind-bind (fault k) g h = refl
-bind-bind (got a fs q) g h = go fs (g a q)
-  where
-    go : (fs : List Flaw) (o : Out _) → bind (withFlaws fs o) h ≡ withFlaws fs (bind o h)
-    go [] o = refl
-    go (f ∷ fs) (fault k) = refl
-    go (f ∷ fs) (got b gs r) = sym (with-with (f ∷ fs) gs (h b r))
 
 -- ---- a reader stops with k exactly where H says so
 

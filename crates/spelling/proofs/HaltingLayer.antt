@@ -39,7 +39,8 @@ use Rattle.spelling.proofs.GrammarFronts.{front-front}
 use Rattle.spelling.proofs.GrammarLayer.{some-field, some-shared}
 use Rattle.spelling.proofs.SpelledNumbers.{Any, any-clean, any-number, any-some}
 use Rattle.spelling.proofs.Spelled.{read-any}
-use Rattle.spelling.proofs.Halting.{bind-bind, Halt, halt-bind, halt-none, halt-then, halt-make, halt-flag, halt-fixed, halt-sized}
+use Rattle.head.proofs.MeetingLaws.{bind-bind}
+use Rattle.spelling.proofs.Halting.{Halt, halt-bind, halt-none, halt-then, halt-make, halt-flag, halt-fixed, halt-sized}
 use Rattle.spelling.proofs.HaltingNumbers.{halt-number}
 use Rattle.spelling.proofs.HaltingFronts.{at-unknown, unknown-at, halt-bytes, halt-text, halt-front, halt-leaf}
 use Rattle.spelling.proofs.HaltingContents.{halt-part, fields-halt, items-halt}

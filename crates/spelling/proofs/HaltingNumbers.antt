@@ -8,6 +8,7 @@ use lib.ListN.{length, take, drop, replicate, length-append, length-replicate, t
 use lib.Seq.{take-all}
 use lib.Dec.{ltb, leb}
 use borrow.Author.Tests.{ltb-true}
+use Rattle.number.proofs.Clash.{clash}
 use Rattle.number.specs.BigEndian.{All, Bytes}
 use Rattle.number.specs.VarUInt.{bound, following, valueOf, answer, varUInt, form}
 use Rattle.number.specs.declared.VarUInt.{VarUInt}
@@ -51,7 +52,7 @@ cut-begins (b ∷ s) y e = go (ltb (length s) (following b)) refl e
     go : (x : Bool) → ltb (length s) (following b) ≡ x
         → cond x Cut (Whole (valueOf (following b) b s) (suc (following b)) (leb (bound (following b)) (valueOf (following b) b s))) ≡ Cut → NumberCut (b ∷ s)
     go true l h = more (following b) (ltb-true (length s) (following b) l) refl
-    go false l h = absurd (let z : _≡_ {A = ℕ} 0 1 = cc in omega arith)
+    go false l h = clash cc
 
 begins-cut : (s : List ℕ) → NumberCut s → varUInt s ≡ Cut
 begins-cut s i = go (varUInt s) refl

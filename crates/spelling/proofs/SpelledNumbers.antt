@@ -8,6 +8,7 @@ use lib.ListN.{length, take, drop, getD, take-append-drop}
 use lib.Seq.{take-at, drop-at, length-take-le, take-length, drop-length}
 use lib.Dec.{ltb, leb}
 use borrow.Author.Tests.{lt-ltb, leb-true, leb-false}
+use Rattle.number.proofs.Clash.{clash}
 use Rattle.number.specs.BigEndian.{Bytes}
 use Rattle.number.specs.VarUInt.{reached, bounds, bound, varUInt, form, encoded}
 use Rattle.number.specs.declared.VarUInt.{VarUInt}
@@ -36,7 +37,7 @@ or-left true b h = h
 or-left false b h = refl
 
 or-right : (a b : Bool) → (a || b) ≡ false → b ≡ false
-or-right true b h = absurd (let z : _≡_ {A = ℕ} 0 1 = cc in omega arith)
+or-right true b h = clash cc
 or-right false b h = h
 
 pub any-clean : Clean Any
@@ -156,7 +157,7 @@ encoded-number = record {
     go : (v : ℕ) (w : List ℕ) (fs : List Flaw) (r : List ℕ) (m : Bool) → Bytes w → varUInt w ≡ Whole v (length w) m
         → raise (not m) Long (got v [] r) ≡ got v fs r → has Long fs ≡ false → Encoded v w
     go v w fs r true y e k c = let i = var-inv w v (length w) y e in (i .0, i .2 ∙ (ap (λ z. encoded v ++ z) (drop-length w) ∙ append-nil (encoded v)))
-    go v w fs r false y e k c = absurd (let z : _≡_ {A = ℕ} 0 1 = cc in omega arith)
+    go v w fs r false y e k c = clash cc
 
 pub minimal-number : Front NoLong readVarUInt minimalForm
 minimal-number = front-as no-long-clean readVarUInt Encoded minimalForm (λ v w y x. encoded-minimal v w x) (λ v w x. minimal-encoded v w x) encoded-number

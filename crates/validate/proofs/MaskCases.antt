@@ -7,6 +7,7 @@ use mathlib.Core.List.{List, [], _∷_, _++_}
 use lib.ListN.{length, length-append}
 use lib.Dec.{ltb}
 use borrow.Author.Tests.{lt-ltb, le-ltb}
+use Rattle.number.proofs.Clash.{clash}
 use Rattle.format.specs.declared.Kind.{Kind}
 use Rattle.format.specs.declared.Stop.{Stop}
 use Rattle.format.specs.declared.Stop.the-variants.{TooLong}
@@ -18,12 +19,13 @@ use Rattle.format.specs.Parse.{Out, fault, got}
 use Rattle.format.specs.Mask.{flaws, has, isAsked, namesMode, formatMode, sumOf, paddingMode, paddingOf, stopValue, maskOf, mask}
 use Rattle.format.specs.Reader.{Named, Standing, Layout, read}
 use Rattle.faults.specs.Noted.{nothing, asks, noted, sumIn}
-use Rattle.head.specs.Code.{answerOf}
+use Rattle.front.specs.Code.{answerOf}
 use Rattle.faults.proofs.SumLaws.{noted-sum, sum-fits}
-use Rattle.validate.specs.declared.Field.{Field}
-use Rattle.validate.specs.declared.Field.the-variants as F
-use Rattle.validate.specs.Checks.{fieldAt, asked}
-use Rattle.validate.proofs.NameLaws.{read-ends}
+use Rattle.contents.specs.declared.Field.{Field}
+use Rattle.contents.specs.declared.Field.the-variants as F
+use Rattle.checks.specs.Checks.{fieldAt}
+use Rattle.validate.specs.Asked.{asked}
+use Rattle.names.proofs.ReadNames.{read-ends}
 
 pub mask-long : (n : ℕ) (s : List ℕ) → lengthLimit < length s → (v : ℕ) → v ≡ stopValue TooLong → v ≡ mask n s
 unfolding mask
@@ -47,7 +49,8 @@ padding n s w (b ∷ r) e =
     at true = refl
     at false = refl
 
-module _ (n : ℕ) (s : List ℕ) (short : length s ≤ lengthLimit) (b₁ b₂ : Bool) (i₁ : b₁ ≡ isAsked n namesMode) (i₂ : b₂ ≡ isAsked n formatMode) (g : Faults) (i₀ : g ≡ nothing)
+module _ (n : ℕ) (s : List ℕ) (short : length s ≤ lengthLimit) (b₁ b₂ : Bool) (i₁ : b₁ ≡ isAsked n namesMode) (i₂ : b₂ ≡ isAsked n formatMode)
+    (g : Faults) (i₀ : g ≡ nothing)
     (x : Field) (e : x ≡ fieldAt Top (record { names = b₁; format = b₂ }) depthLimit g s) where
   within : mask n s ≡ maskOf n (read depthLimit Top s)
   unfolding mask
@@ -60,27 +63,31 @@ module _ (n : ℕ) (s : List ℕ) (short : length s ≤ lengthLimit) (b₁ b₂ 
   unfolding fieldAt
   mask-stop j i v k = k ∙ sym (within ∙ at (read depthLimit Top s) (sym i ∙ field))
     where
-      at : (o : Out (Named (Standing (Layout depthLimit)))) → F.Stop j ≡ answerOf F.Stop (λ x h r. F.Read (x .1 .0) (length s - length r) h) (asked n) nothing o → maskOf n o ≡ stopValue j
+      at : (o : Out (Named (Standing (Layout depthLimit))))
+          → F.Stop j ≡ answerOf F.Stop (λ x h r. F.Read (x .1 .0) (length s - length r) h) (asked n) nothing o → maskOf n o ≡ stopValue j
       at (fault l) z = let y : j ≡ l = cc in rw y
-      at (got y fs r) z = absurd (let p : _≡_ {A = ℕ} 0 1 = cc in omega arith)
+      at (got y fs r) z = clash cc
 
   -- the sum has its place in 32 bits, with 4096 beside it
   pub mask-fits : (k : Kind) (a : ℕ) (h : Faults) → x ≡ F.Read k a h → (u : ℕ) → u ≡ sumIn h → u ≤ 2032
   unfolding fieldAt
   mask-fits k a h i u j = rw j (at (read depthLimit Top s) (sym i ∙ field))
     where
-      at : (o : Out (Named (Standing (Layout depthLimit)))) → F.Read k a h ≡ answerOf F.Stop (λ x h r. F.Read (x .1 .0) (length s - length r) h) (asked n) nothing o → sumIn h ≤ 2032
-      at (fault l) z = absurd (let p : _≡_ {A = ℕ} 0 1 = cc in omega arith)
+      at : (o : Out (Named (Standing (Layout depthLimit))))
+          → F.Read k a h ≡ answerOf F.Stop (λ x h r. F.Read (x .1 .0) (length s - length r) h) (asked n) nothing o → sumIn h ≤ 2032
+      at (fault l) z = clash cc
       at (got y fs r) z = let w : h ≡ noted (asked n) nothing fs = cc in rw (w, noted-sum (asked n) fs) (sum-fits (λ f. asks (asked n) f && has f fs))
 
-  pub mask-read : (k : Kind) (a : ℕ) (h : Faults) → x ≡ F.Read k a h → (b₃ : Bool) → b₃ ≡ isAsked n paddingMode → (u v : ℕ) → u ≡ sumIn h → v ≡ cond (b₃ && ltb a (length s)) 4096 0
+  pub mask-read : (k : Kind) (a : ℕ) (h : Faults) → x ≡ F.Read k a h → (b₃ : Bool) → b₃ ≡ isAsked n paddingMode → (u v : ℕ) → u ≡ sumIn h
+      → v ≡ cond (b₃ && ltb a (length s)) 4096 0
       → u + v ≡ mask n s
   unfolding fieldAt
   mask-read k a h i b₃ i₃ u v j₁ j₂ = rw (j₁, j₂, i₃) (sym (within ∙ at (read depthLimit Top s) refl (sym i ∙ field)))
     where
-      at : (o : Out (Named (Standing (Layout depthLimit)))) → read depthLimit Top s ≡ o → F.Read k a h ≡ answerOf F.Stop (λ x h r. F.Read (x .1 .0) (length s - length r) h) (asked n) nothing o
+      at : (o : Out (Named (Standing (Layout depthLimit)))) → read depthLimit Top s ≡ o
+          → F.Read k a h ≡ answerOf F.Stop (λ x h r. F.Read (x .1 .0) (length s - length r) h) (asked n) nothing o
           → maskOf n o ≡ sumIn h + cond (isAsked n paddingMode && ltb a (length s)) 4096 0
-      at (fault l) z y = absurd (let p : _≡_ {A = ℕ} 0 1 = cc in omega arith)
+      at (fault l) z y = clash cc
       at (got y fs r) z w =
           let w₁ : h ≡ noted (asked n) nothing fs = cc in
           let w₂ : a ≡ length s - length r = cc in

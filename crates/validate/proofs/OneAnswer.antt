@@ -3,16 +3,7 @@
 use Prim.Native.Nat.{ℕ}
 use mathlib.Core.List.{List}
 use Rattle.number.proofs.OneAnswer.{One, one}
-use Rattle.format.specs.declared.Form.{Form}
-use Rattle.format.specs.declared.Stop.{Stop}
-use Rattle.format.specs.Mask.{stopValue, mask}
-use Rattle.validate.specs.FieldNames.{twinsAt}
+use Rattle.format.specs.Mask.{mask}
 
 pub one-answer : (modes : ℕ) (payload : List ℕ) → One (mask modes payload)
 one-answer modes payload = one (mask modes payload)
-
-pub stop-value-one : (stop : Stop) → One (stopValue stop)
-stop-value-one stop = one (stopValue stop)
-
-pub twins-one : (form : Form) (part : List ℕ) → One (twinsAt form part)
-twins-one form part = one (twinsAt form part)

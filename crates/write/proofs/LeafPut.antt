@@ -3,10 +3,11 @@ use Prim.Native.Nat.{ℕ, _+_, _-_, _≤_}
 use native.Mathlib.Omega.{arith}
 use mathlib.Core.Path.{_≡_, refl, sym, ap, _∙_}
 use mathlib.Core.Bool.{Bool, true, false, cond}
-use mathlib.Core.List.{List, [], _++_}
+use mathlib.Core.List.{List, _++_}
 use lib.ListN.{length, drop, take, length-append, length-drop}
 use lib.Seq.{sets, length-take-le, take-append-seam}
 use borrow.Author.Tests.{le-ltb}
+use Rattle.number.proofs.Clash.{clash}
 use Rattle.number.specs.BigEndian.{toBytes}
 use Rattle.number.proofs.BigEndianLaws.{to-length}
 use Rattle.float.specs.Rule.{holds}
@@ -25,15 +26,19 @@ use Rattle.format.specs.Parse.{Out}
 use Rattle.format.specs.Payload.{Payload, leaf, fields, sharedFields, items, sharedItems, payload}
 use Rattle.format.specs.Tree.{Leaf}
 use Rattle.format.specs.Encoding.{leafPayload}
-use Rattle.head.specs.Pieces.{between}
+use Rattle.front.specs.Between.{between}
 use Rattle.frames.specs.WriteList.{Frames, framed, leafFound}
 use Rattle.format.proofs.KindLaws.{known-inv}
 use Rattle.write.specs.declared.Position.{Position}
-use Rattle.write.specs.Frames.{noModes, leafBy, leafKnown, leafOf, bitsAt, endIn, endAt}
+use Rattle.write.specs.Again.{bitsAt, endAt}
+use Rattle.frames.specs.FramePieces.{leafBy, leafKnown, leafOf}
 use Rattle.write.specs.Passes.{LeafMakes, LeafReady}
-use Rattle.write.proofs.FrameCases.{never, bytes-drop}
-use Rattle.write.proofs.LeafCases.{Double, bitsOf, leaf-got, heading-leaf}
-use Rattle.write.proofs.Used.{leaf-found}
+use Rattle.frames.proofs.FrontLaws.{never}
+use Rattle.frames.proofs.PlaceLaws.{bytes-drop}
+use Rattle.frames.proofs.LeafLaws.{Double, bitsOf, leaf-got}
+use Rattle.frame.specs.Pieces.{noModes, endIn, leafEnd, bitsIn}
+use Rattle.frame.proofs.LeafHeadings.{heading-leaf}
+use Rattle.frames.proofs.Used.{leaf-found}
 
 abbrev position : ℕ → ℕ → ℕ → Position
 position n o k = record { next = n; to = o; opened = k }
@@ -70,7 +75,7 @@ module _ (s : List ℕ) (at to : ℕ) (out : List ℕ) (g : LeafReady s at 11 to
 
   module _ (v : ℕ) (e : v ≡ bitsAt s at) (x : Narrowed) (i : x ≡ narrowed v) where
     bits-are : bitsAt s at ≡ bitsOf (drop at s)
-    unfolding bitsAt
+    unfolding bitsAt bitsIn
     bits-are = double λ fs d. rw (le-ltb (length (drop at s)) 8 (d .enough))
 
     module _ (n : ℕ) (j : x ≡ N.To n) where
@@ -79,7 +84,7 @@ module _ (s : List ℕ) (at to : ℕ) (out : List ℕ) (g : LeafReady s at 11 to
         where
           go : (b : Bool) → holds v ≡ b → N.To n ≡ cond b (N.To (narrow v)) N.No → (holds v ≡ true) × (n ≡ narrow v)
           go true h z = (h, cc)
-          go false h z = absurd (let y : _≡_ {A = ℕ} 0 1 = cc in omega arith)
+          go false h z = clash cc
 
       narrow-bytes : leafPayload (g .v) ≡ toBytes 4 n
       narrow-bytes = double λ fs d. let t = to-is in let z : leafPayload (g .v) ≡ toBytes 4 (narrow (bitsOf (drop at s))) = rw (t .0) at (d .bytes) in rw (t .1) z
@@ -101,7 +106,7 @@ module _ (s : List ℕ) (at to : ℕ) (out : List ℕ) (g : LeafReady s at 11 to
       no-is = rw (e ∙ bits-are) at (go (holds v) refl (sym j ∙ i))
         where
           go : (b : Bool) → holds v ≡ b → N.No ≡ cond b (N.To (narrow v)) N.No → holds v ≡ false
-          go true h z = absurd (let y : _≡_ {A = ℕ} 0 1 = cc in omega arith)
+          go true h z = clash cc
           go false h z = h
 
       wide-bytes : leafPayload (g .v) ≡ take 8 (drop at s)
@@ -134,7 +139,7 @@ module _ (s : List ℕ) (at b to : ℕ) (out : List ℕ) (g : LeafReady s at b t
   module _ (ne : b ≡ 11 → ⊥) (end : ℕ) (ee : end ≡ endAt s at b) where
     -- it stands there, and ends there
     plain : (drop at s ≡ leafPayload (g .v) ++ g .r) × (end ≡ at + length (leafPayload (g .v)))
-    unfolding endAt
+    unfolding endAt leafEnd
     plain = leaf-case b (drop at s) (g .reads) λ k p ek ei ep h. leaf-found (drop at s) (p (drop at s)) h λ fs y u v w. leaf-got k p ep (drop at s) (bytes-drop s at (g .bytes)) y u v w
         (λ nk fe es ekk.
         let n : length (drop at s) ≡ length (leafPayload (g .v)) + length (g .r) = ap length es ∙ length-append (leafPayload (g .v)) (g .r) in

@@ -5,15 +5,7 @@
 use mathlib.Core.List.{List}
 use Prim.Native.Nat.{ℕ}
 use Rattle.number.proofs.OneAnswer.{One, one}
-use Rattle.frames.specs.declared.Refusal.{Refusal}
-use Rattle.frames.specs.Writer.{refusalNumber, written}
-use Rattle.write.specs.Whole.{cleared}
+use Rattle.frames.specs.Writer.{written}
 
 pub one-answer : (list output work : List ℕ) → One (written list output work)
 one-answer list output work = one (written list output work)
-
-pub refusal-number-one : (refusal : Refusal) → One (refusalNumber refusal)
-refusal-number-one refusal = one (refusalNumber refusal)
-
-pub clear-one : (work : List ℕ) → One (cleared work)
-clear-one work = one (cleared work)

@@ -1,223 +1,28 @@
--- The second pass, the fields of an object or the items of an array: what the loop's variables hold of those that are written and of those that follow.
-use Prim.Native.Nat.{ℕ, zero, suc, _+_, _-_, _≤_, _<_}
+-- The second pass, the loop over the fields of an object or the items of an array: its end, its close, and one field more.
+use Prim.Native.Nat.{ℕ, suc, _+_, _-_, _≤_, _<_}
 use native.Mathlib.Omega.{arith}
-use native.Mathlib.Nat.{add-zero}
-use mathlib.Core.Path.{_≡_, refl, sym, ap, _∙_}
-use mathlib.Core.Bool.{Bool, true, false, not, cond}
+use mathlib.Core.Path.{_≡_, sym, ap, _∙_}
+use mathlib.Core.Bool.{Bool, not}
 use mathlib.Core.List.{List, [], _∷_, _++_, append-assoc}
-use lib.ListN.{length, drop, getD, set, length-append, length-drop}
-use lib.Seq.{sets, length-sets, drop-at, drop-drop, drop-set-lt}
-use lib.Dec.{eqb}
-use borrow.Author.Tests.{eqb-true, eqb-false}
-use Rattle.number.specs.BigEndian.{Bytes}
+use lib.ListN.{length, drop, getD, length-append}
+use lib.Seq.{sets, length-sets}
 use Rattle.number.specs.VarUInt.{encoded}
-use Rattle.format.specs.Tree.{atom, array, object, Tree}
+use Rattle.format.specs.Tree.{Tree}
 use Rattle.format.specs.Encoding.{concat, kindOf, payloadOf, sizesOf}
 use Rattle.frames.specs.WriteList.{framed, next, readFrames}
 use Rattle.format.proofs.Lists.{append-nil}
 use Rattle.write.specs.declared.Position.{Position}
-use Rattle.write.specs.declared.Opened.{Opened}
-use Rattle.write.specs.Container.{nodeOf, ids, shared, uniform, countPart, sharedPart, body, packed, sizeIn, widthIn, sharedIn, uniformIn, packsOf}
-use Rattle.write.specs.Frames.{modeOf, contentsBy, containerOf}
-use Rattle.write.specs.Passes.{HasOpened, CanOpen, partOf, Made, FieldGiven, FieldReady, FieldMakes, ContentsReady, ContentsMakes}
-use Rattle.write.proofs.FrameCases.{never, next-got, bytes-drop}
-use Rattle.write.proofs.FieldCases.{place, tail-at}
+use Rattle.frames.specs.Container.{nodeOf, countPart, packsOf}
+use Rattle.run.specs.Run.{uniform}
+use Rattle.frames.specs.FramePieces.{modeOf, contentsBy}
+use Rattle.write.specs.Passes.{partOf, Made, FieldGiven, FieldReady, FieldMakes, ContentsMakes}
+use Rattle.frames.proofs.PlaceLaws.{bytes-drop, sets-back, place, tail-at, sets-append}
 use Rattle.write.proofs.LeafPut.{same-leaf}
-use Rattle.write.proofs.PutField.{drop-head}
-use Rattle.write.proofs.LoopLaws.{set-sets, sets-append}
-use Rattle.write.proofs.ContainerLaws.{concat-snoc, node-payload, node-packs, node-sizes, packed-shared-in, packed-width, packed-size, packed-uniform}
-use Rattle.write.proofs.Used.{contents-used, read-used}
-
--- ---- stores
-
-sets-back : (a b l : List ℕ) (i : ℕ) → sets (sets l (i + length a) b) i a ≡ sets l i (a ++ b)
-sets-back [] b l i = rw (add-zero i)
-sets-back (x ∷ a) b l i =
-    let e : i + suc (length a) ≡ suc i + length a = omega arith in
-    rw (set-sets b l i (i + suc (length a)) x (omega arith), e) (sets-back a b (set l i x) (suc i))
-
-drop-sets : (vs l : List ℕ) (i : ℕ) → drop (i + length vs) (sets l i vs) ≡ drop (i + length vs) l
-drop-sets [] l i = refl
-drop-sets (v ∷ vs) l i =
-    let e : i + suc (length vs) ≡ suc i + length vs = omega arith in
-    rw (e, drop-sets vs (set l i v) (suc i), drop-set-lt (suc i + length vs) l i v (omega arith))
-
--- a run behind a run, and what stands behind it
-sets-behind : (out out₀ out′ : List ℕ) (e a : ℕ) (b c : List ℕ) → out′ ≡ sets out e c → out ≡ sets out₀ a b → e ≡ a + length b → out′ ≡ sets out₀ a (b ++ c)
-sets-behind out out₀ out′ e a b c h i j = h ∙ rw (i, j) (sets-append b c out₀ a)
-
-holds-behind : (w w′ vs ps more : List ℕ) (j j′ : ℕ) → w′ ≡ sets w j vs → j′ ≡ j + length vs → drop j w ≡ ps ++ more → length ps ≡ length vs → drop j′ w′ ≡ more
-holds-behind w w′ vs ps more j j′ h i e l = rw (h, i, drop-sets, ← drop-drop, e) (drop-at ps more (length vs) l)
-
--- ---- a tree has as many sizes as numbers
-
-module _ {A : Type 0} (g h : A → List ℕ) (e : (x : A) → length (g x) ≡ length (h x)) where
-  concat-long : (xs : List A) → length (concat g xs) ≡ length (concat h xs)
-  concat-long [] = refl
-  concat-long (x ∷ xs) = rw (length-append, e x, concat-long xs, ← length-append)
-
-pub numbers-long : (d : ℕ) (t : Tree d) → length (packsOf d t) ≡ length (sizesOf d t)
-numbers-long zero t = absurd t
-numbers-long (suc d) (atom v) = refl
-numbers-long (suc d) (array xs) = ap suc (concat-long (packsOf d) (sizesOf d) (numbers-long d) xs)
-numbers-long (suc d) (object xs) = ap suc (concat-long (λ (x : List ℕ × Tree d). packsOf d (x .1)) (λ (x : List ℕ × Tree d). sizesOf d (x .1)) (λ x. numbers-long d (x .1)) xs)
-
--- ---- the first of some fields, or the close
-
-module _ (d : ℕ) (s : List ℕ) (named : Bool) where
-  contents-case : {X : Type 0} (n : ℕ) (used : List (List ℕ)) (p : ℕ) (ys : List (List ℕ × Tree d)) (r : List ℕ) → contentsBy named (readFrames d) n used (drop p s) ≡ framed ys r
-      → (p < length s → getD s p 0 ≡ 0 → ys ≡ [] → r ≡ drop (p + 1) s → X)
-      → (p < length s → (getD s p 0 ≡ 0 → ⊥) → (m : ℕ) → n ≡ suc m → (x : List ℕ × Tree d) (q : List ℕ) (zs : List (List ℕ × Tree d)) → readFrames d (modeOf named used) (drop p s) ≡ framed x q
-      → contentsBy named (readFrames d) m (x .0 ∷ used) q ≡ framed zs r → ys ≡ x ∷ zs → X) → X
-  contents-case {X} zero used p ys r h f g = never h
-  contents-case {X} (suc m) used p ys r h f g = outer (drop p s) refl h
-    where
-      inner : (b : ℕ) (t : List ℕ) → p < length s → getD s p 0 ≡ b → drop (p + 1) s ≡ t → drop p s ≡ b ∷ t → (z : Bool) → eqb b 0 ≡ z
-          → cond z (framed [] t) (next (readFrames d (modeOf named used) (b ∷ t)) λ x r. next (contentsBy named (readFrames d) m (x .0 ∷ used) r) λ xs q. framed (x ∷ xs) q) ≡ framed ys r → X
-      inner b t l eb et e true ez h = f l (eb ∙ eqb-true b 0 ez) (cc) (cc)
-      inner b t l eb et e false ez h =
-          next-got (readFrames d (modeOf named used) (b ∷ t)) _ h λ x q e₁ h₁. next-got (contentsBy named (readFrames d) m (x .0 ∷ used) q) _ h₁ λ zs u e₂ h₂.
-          let i : u ≡ r = cc in
-          g l (λ i. eqb-false b 0 ez (sym eb ∙ i)) m refl x q zs (rw e e₁) (e₂ ∙ ap (λ (t : List ℕ). framed zs t) i) (cc)
-
-      outer : (t : List ℕ) → drop p s ≡ t → contentsBy named (readFrames d) (suc m) used t ≡ framed ys r → X
-      outer [] e h = never h
-      outer (b ∷ t) e h = let z = drop-head s p b t e in inner b t (z .1) (z .0) (z .2) e (eqb b 0) refl h
-
--- ---- a container's fields: the ID that they share, their contents as encoded, their sizes
-
-abbrev sharedOf : (d : ℕ) → List (List ℕ × Tree d) → ℕ
-sharedOf d zs = shared (ids (kindOf d) zs)
-
-abbrev bodyOf : (d : ℕ) → Bool → List (List ℕ × Tree d) → List ℕ
-bodyOf d named zs = body named (kindOf d) (payloadOf d) zs
-
-abbrev partsOf : (d : ℕ) → Bool → List (List ℕ × Tree d) → List (List ℕ × Tree d) → List ℕ
-partsOf d named zs xs = sharedPart (uniform named (sharedOf d zs)) (sharedOf d zs) ++ concat (partOf d named (not (uniform named (sharedOf d zs)))) xs
-
-abbrev sizesIn : (d : ℕ) → List (List ℕ × Tree d) → List ℕ
-sizesIn d xs = concat (λ x. sizesOf d (x .1)) xs
-
-abbrev packsIn : (d : ℕ) → List (List ℕ × Tree d) → List ℕ
-packsIn d xs = concat (λ x. packsOf d (x .1)) xs
-
-body-size : (d : ℕ) (named : Bool) (zs : List (List ℕ × Tree d)) → length (bodyOf d named zs) ≡ length (countPart named (length zs)) + length (partsOf d named zs zs)
-body-size d named zs = length-append (countPart named (length zs)) (partsOf d named zs zs)
-
-pub record PutLoop (d : ℕ) (s : List ℕ) (at : ℕ) (named : Bool) (to k : ℕ) (out₀ w₀ : List ℕ) (q : ℕ) (typed : Bool) (out w : List ℕ) (p e j n : ℕ) : Type 0 where
-  pub zs : List (List ℕ × Tree d)
-  pub xs : List (List ℕ × Tree d)
-  pub ys : List (List ℕ × Tree d)
-  pub all : zs ≡ xs ++ ys
-  pub r : List ℕ
-  pub more : List ℕ
-  pub fuel : ℕ
-  pub used : List (List ℕ)
-  pub bytes : Bytes s
-  pub short : length s ≤ 65536
-  pub high : p ≤ length s
-  pub less : n ≤ p
-  pub whole : containerOf named (readFrames d) (drop at s) ≡ framed (nodeOf named zs) r
-  pub todo : contentsBy named (readFrames d) fuel used (drop p s) ≡ framed ys r
-  pub is-q : q ≡ to + length (encoded (length (bodyOf d named zs)))
-  pub is-typed : typed ≡ not (uniform named (sharedOf d zs))
-  pub is-out : out ≡ sets (sets out₀ to (encoded (length (bodyOf d named zs)))) (q + length (countPart named (length zs))) (partsOf d named zs xs)
-  pub is-e : e ≡ q + length (countPart named (length zs)) + length (partsOf d named zs xs)
-  pub is-n : n ≡ length xs
-  pub is-j : j ≡ k + length (length (bodyOf d named zs) ∷ sizesIn d xs)
-  pub is-work : w ≡ sets w₀ k (length (bodyOf d named zs) ∷ sizesIn d xs)
-  pub holds : drop j w ≡ packsIn d ys ++ more
-  pub room : e + length (concat (partOf d named typed) ys) ≤ length out₀
-
-module _ (d : ℕ) (s : List ℕ) (at : ℕ) (named : Bool) where
-  node-case : {X : Type 0} (t : Tree (suc d)) (r : List ℕ) → containerOf named (readFrames d) (drop at s) ≡ framed t r
-      → ((zs : List (List ℕ × Tree d)) → t ≡ nodeOf named zs → contentsBy named (readFrames d) (length (drop at s)) [] (drop at s) ≡ framed zs r → X) → X
-  unfolding containerOf
-  node-case t r h f = next-got (contentsBy named (readFrames d) (length (drop at s)) [] (drop at s)) _ h λ zs q e h₁. let z : q ≡ r = cc in f zs (cc) (e ∙ ap (λ (t : List ℕ). framed zs t) z)
-
-  module _ (to k : ℕ) (out w : List ℕ) (g : ContentsReady d s at named to k out w) where
-    record Parts : Type 0 where
-      pub zs : List (List ℕ × Tree d)
-      pub is-t : containerOf named (readFrames d) (drop at s) ≡ framed (nodeOf named zs) (g .r)
-      pub todo : contentsBy named (readFrames d) (length (drop at s)) [] (drop at s) ≡ framed zs (g .r)
-      pub num : getD w k 0 ≡ packed named (sharedOf d zs) (length zs) (length (bodyOf d named zs))
-      pub mine : k < length w
-      pub holds : drop (k + 1) w ≡ packsIn d zs ++ g .given .more
-      pub room : to + length (encoded (length (bodyOf d named zs))) + length (bodyOf d named zs) ≤ length out
-      pub few : length zs ≤ 65536
-
-    parts : Parts
-    parts = node-case (g .t) (g .r) (g .given .reads) λ zs et e.
-        let h : drop k w ≡ packed named (sharedOf d zs) (length zs) (length (bodyOf d named zs)) ∷ (packsIn d zs ++ g .given .more)
-        = g .given .holds ∙ ap (λ (t : Tree (suc d)). packsOf (suc d) t ++ g .given .more) et ∙ ap (λ (t : List ℕ). t ++ g .given .more) (node-packs (kindOf d) (payloadOf d) (packsOf d) named zs) in
-        let z = drop-head w k _ _ h in
-        let a : length (payloadOf (suc d) (g .t)) ≡ length (encoded (length (bodyOf d named zs))) + length (bodyOf d named zs)
-        = ap (λ (t : Tree (suc d)). length (payloadOf (suc d) t)) et ∙ ap length (node-payload (kindOf d) (payloadOf d) named zs) ∙ length-append (encoded (length (bodyOf d named zs))) (bodyOf d named zs) in
-        let c = contents-used (kindOf d) (payloadOf d) (packsOf d) (readFrames d) (read-used d) named (length (drop at s)) [] (drop at s) zs (g .r) (bytes-drop s at (g .given .bytes)) e in
-        let n : length (drop at s) ≡ length (c .pre) + length (g .r) = ap length (c .all) ∙ length-append (c .pre) (g .r) in
-        record { zs = zs; is-t = g .given .reads ∙ ap (λ (t : Tree (suc d)). framed t (g .r)) et; todo = e; num = z .0; mine = z .1; holds = z .2; room = omega (arith, g .room); few = omega (arith, c .count, g .given .short, length-drop at s) }
-
-    record Num (x : ℕ) (zs : List (List ℕ × Tree d)) : Type 0 where
-      pub size : sizeIn x ≡ length (bodyOf d named zs)
-      pub uni : uniformIn x ≡ uniform named (sharedOf d zs)
-      pub width : widthIn x ≡ length (countPart named (length zs))
-      pub byte : sharedPart (uniformIn x) (sharedIn x) ≡ sharedPart (uniform named (sharedOf d zs)) (sharedOf d zs)
-
-    num : Num (getD w k 0) (parts .zs)
-    unfolding sharedPart
-    num = let q = parts in let zs = q .zs in let z = length (bodyOf d named zs) in
-        let u : uniformIn (getD w k 0) ≡ uniform named (sharedOf d zs) = rw (q .num) (packed-uniform (kindOf d) named zs z (q .few)) in
-        let c : sharedIn (getD w k 0) ≡ cond (uniform named (sharedOf d zs)) (sharedOf d zs) 0 = rw (q .num) (packed-shared-in (kindOf d) named zs z (q .few)) in
-        record { size = rw (q .num) (packed-size (kindOf d) named zs z (q .few)); uni = u; width = rw (q .num) (packed-width (kindOf d) named zs z (q .few)); byte = rw (u, c) (go (uniform named (sharedOf d zs)) (sharedOf d zs)) }
-      where
-        go : (b : Bool) (c : ℕ) → cond b (cond b c 0 ∷ []) [] ≡ cond b (c ∷ []) []
-        go true c = refl
-        go false c = refl
-
-    pub put-can : CanOpen to k out w (getD w k 0)
-    put-can = let q = parts in let m = num in
-        let z = body-size d named (q .zs) in
-        let y : length (partsOf d named (q .zs) (q .zs)) ≡ length (sharedPart (uniform named (sharedOf d (q .zs))) (sharedOf d (q .zs))) + length (concat (partOf d named (not (uniform named (sharedOf d (q .zs))))) (q .zs)) = length-append (sharedPart (uniform named (sharedOf d (q .zs))) (sharedOf d (q .zs))) (concat (partOf d named (not (uniform named (sharedOf d (q .zs))))) (q .zs)) in
-        record { mine = q .mine; room = rw (m .byte, m .size, m .width) (omega (arith, q .room)) }
-
-    pub put-mine : k < length w
-    put-mine = parts .mine
-
-    pub put-start : (out₁ w₁ : List ℕ) (h : Opened) → HasOpened to k out out₁ w w₁ (getD w k 0) h → PutLoop d s at named to k out w (h .count) (h .typed) out₁ w₁ at (h .to) (k + 1) 0
-    put-start out₁ w₁ h v = let q = parts in let m = num in
-        let c = sharedOf d (q .zs) in
-        let x = getD w k 0 in
-        let z = body-size d named (q .zs) in
-        let y : length (partsOf d named (q .zs) (q .zs)) ≡ length (sharedPart (uniform named c) c) + length (concat (partOf d named (not (uniform named c))) (q .zs)) = length-append (sharedPart (uniform named c) c) (concat (partOf d named (not (uniform named c))) (q .zs)) in
-        let eq : h .count ≡ to + length (encoded (length (bodyOf d named (q .zs)))) = v .is-count ∙ rw (m .size) in
-        let ee : h .to ≡ h .count + length (countPart named (length (q .zs))) + length (sharedPart (uniform named c) c) = v .is-to ∙ rw (m .byte, m .width) in
-        let ef : h .typed ≡ not (uniform named c) = v .is-typed ∙ rw (m .uni) in
-        let ew : w₁ ≡ set w k (length (bodyOf d named (q .zs))) = v .is-work ∙ rw (m .size) in
-        record {
-          zs = q .zs;
-          xs = [];
-          ys = q .zs;
-          all = refl;
-          r = g .r;
-          more = g .given .more;
-          fuel = length (drop at s);
-          used = [];
-          bytes = g .given .bytes;
-          short = g .given .short;
-          high = g .given .inside;
-          less = omega arith;
-          whole = q .is-t;
-          todo = q .todo;
-          is-q = eq;
-          is-typed = ef;
-          is-out = v .is-out ∙ rw (m .byte, m .width, m .size, append-nil);
-          is-e = rw append-nil ee;
-          is-n = refl;
-          is-j = refl;
-          is-work = ew;
-          holds = rw (ew, drop-set-lt (k + 1) w k (length (bodyOf d named (q .zs))) (omega arith)) (q .holds);
-          room = rw ef (omega (arith, q .room));
-        }
+use Rattle.frames.proofs.SharedLaws.{concat-snoc}
+use Rattle.frames.proofs.ContainerLaws.{node-payload, node-sizes}
+use Rattle.frames.proofs.PackedLaws.{numbers-long}
+use Rattle.frames.proofs.Used.{read-used}
+use Rattle.write.proofs.PutState.{sets-behind, holds-behind, contents-case, sharedOf, bodyOf, partsOf, sizesIn, packsIn, body-size, PutLoop}
 
 module _ (d : ℕ) (s : List ℕ) (at : ℕ) (named : Bool) (to k : ℕ) (out₀ w₀ : List ℕ) (q : ℕ) (typed : Bool) (out w : List ℕ) (p e j n : ℕ) (l : PutLoop d s at named to k out₀ w₀ q typed out w p e j n) where
   pub put-stop : (out′ w′ : List ℕ) (u : Position) → length s ≤ p → ContentsMakes d s at named to k out₀ out′ w₀ w′ u

@@ -1,5 +1,2 @@
-pub mod Container
-pub mod Frames
+pub mod Again
 pub mod Passes
-pub mod Whole
-pub mod Describe

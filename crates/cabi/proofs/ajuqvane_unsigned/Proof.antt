@@ -1,34 +1,19 @@
 use borrow.Author.Needs.{needs}
+use mathlib.Core.Path.{ap, _∙_}
+use Rattle.places.specs.Values.{unsigned}
+use Rattle.replies.specs.Reply.{unsignedReply}
+use Rattle.cabi.proofs.CallLaws.{told-of}
 use Rattle.cabi.proofs.ajuqvane_unsigned.Statement.{statement}
 use Rattle.cabi.proofs.ajuqvane_unsigned.Tie as tie
-use Rattle.cabi.proofs.ajuqvane_unsigned.Reads as reads
-use Rattle.cabi.proofs.ajuqvane_unsigned.Lts as lts
-use Rattle.cabi.proofs.place_of.Reads as place-of-reads
-use Rattle.read.proofs.unsigned.Reads as unsigned-reads
-use Rattle.validate.proofs.stop_value.Reads as stop-value-reads
-use borrow.Author.Needs.{needs}
-use mathlib.Core.Path.{ap, _∙_}
-use lib.ListN.{set}
-use Rattle.cabi.specs.Number.{afterwards}
-use Rattle.places.specs.Values.{unsigned}
-use Rattle.cabi.specs.Reply.{unsignedReply, placeOf}
-use Rattle.cabi.proofs.ReplyLaws.{reply-few, reply}
 
 pub ajuqvane-unsigned-spec : {M : Type 1} → statement M
 ajuqvane-unsigned-spec =
     tie.close
     (tie.spec
-    (λ c. reply-few 1 unsignedReply _ (unsigned (c .before .before .before .args .payload .now) (placeOf (c .before .before .before .args .kind) (c .before .before .before .args .start) (c .before .before .before .args .end) (c .before .before .before .args .depth))) (c .if1 .taken))
     (λ c κs. search needs)
     (λ c κs. search needs)
-    (λ c. search needs)
-    (λ c. search needs)
-    (λ c. search needs)
-    (λ c. search needs)
-    (λ c. search needs)
     (λ c κs. search needs)
     (λ c. search needs)
-    (λ c. reply 1 unsignedReply (c .before .before .before .before .before .before .before .before .args .answer .now) _ (c .before .before .before .before .before .if1 .left) _ _ (c .before .before .before .unsigned .ensures ∙ ap (unsigned (c .before .before .before .before .before .before .before .before .args .payload .now)) (c .before .before .before .before .place-of .ensures)) (c .before .m .given .1))
-    (λ c. reply 1 unsignedReply (c .before .before .before .before .before .before .before .args .answer .now) _ (c .before .before .before .before .if1 .left) _ _ (c .before .before .unsigned .ensures ∙ ap (unsigned (c .before .before .before .before .before .before .before .args .payload .now)) (c .before .before .before .place-of .ensures)) (c .enum-told .given .1))
-    (λ c. reply 1 unsignedReply (c .before .before .before .before .before .before .before .args .answer .now) _ (c .before .before .before .before .if1 .left) _ _ (c .before .before .unsigned .ensures ∙ ap (unsigned (c .before .before .before .before .before .before .before .args .payload .now)) (c .before .before .before .place-of .ensures)) (c .enum-told2 .given .1))
-    (λ c. ap (λ v. afterwards v (c .before .before .before .before .before .before .before .before .before .args .answer .now)) (c .stop-value .ensures) ∙ reply 1 unsignedReply (c .before .before .before .before .before .before .before .before .before .args .answer .now) _ (c .before .before .before .before .before .before .if1 .left) _ _ (c .before .before .before .before .unsigned .ensures ∙ ap (unsigned (c .before .before .before .before .before .before .before .before .before .args .payload .now)) (c .before .before .before .before .before .place-of .ensures)) (c .before .before .stop .given .1)))
+    (λ c. told-of 1 unsignedReply (c .before .before .before .before .before .before .before .before .args .answer .now) _ _ _
+    (c .before .before .unsigned2 .ensures)
+    (c .before .before .before .before .unsigned .ensures ∙ ap (unsigned _) (c .before .before .before .before .before .of .ensures))))

@@ -1,31 +1,19 @@
 use borrow.Author.Needs.{needs}
+use mathlib.Core.Path.{ap, _∙_}
+use Rattle.places.specs.Places.{part}
+use Rattle.place_replies.specs.PlaceReply.{partReply}
+use Rattle.cabi.proofs.CallLaws.{told-of}
 use Rattle.cabi.proofs.ajuqvane_view.Statement.{statement}
 use Rattle.cabi.proofs.ajuqvane_view.Tie as tie
-use Rattle.cabi.proofs.ajuqvane_view.Reads as reads
-use Rattle.cabi.proofs.ajuqvane_view.Lts as lts
-use Rattle.cabi.proofs.place_of.Reads as place-of-reads
-use Rattle.read.proofs.part.Reads as part-reads
-use Rattle.validate.proofs.stop_value.Reads as stop-value-reads
-use borrow.Author.Needs.{needs}
-use mathlib.Core.Path.{ap, _∙_}
-use lib.ListN.{set}
-use Rattle.cabi.specs.Number.{afterwards}
-use Rattle.places.specs.Places.{part}
-use Rattle.cabi.specs.Reply.{partReply, placeOf}
-use Rattle.cabi.proofs.ReplyLaws.{reply-few, reply}
 
 pub ajuqvane-view-spec : {M : Type 1} → statement M
 ajuqvane-view-spec =
     tie.close
     (tie.spec
-    (λ c. reply-few 2 partReply _ (part (c .before .before .before .args .payload .now) (placeOf (c .before .before .before .args .kind) (c .before .before .before .args .start) (c .before .before .before .args .end) (c .before .before .before .args .depth))) (c .if1 .taken))
     (λ c κs. search needs)
     (λ c κs. search needs)
-    (λ c. search needs)
-    (λ c. search needs)
-    (λ c. search needs)
-    (λ c. search needs)
     (λ c κs. search needs)
     (λ c. search needs)
-    (λ c. reply 2 partReply (c .before .before .before .before .before .before .before .before .args .answer .now) _ (c .before .before .before .before .before .if1 .left) _ _ (c .before .before .before .part .ensures ∙ ap (part (c .before .before .before .before .before .before .before .before .args .payload .now)) (c .before .before .before .before .place-of .ensures)) (c .before .from .given .1))
-    (λ c. ap (λ v. afterwards v (c .before .before .before .before .before .before .before .before .before .args .answer .now)) (c .stop-value .ensures) ∙ reply 2 partReply (c .before .before .before .before .before .before .before .before .before .args .answer .now) _ (c .before .before .before .before .before .before .if1 .left) _ _ (c .before .before .before .before .part .ensures ∙ ap (part (c .before .before .before .before .before .before .before .before .before .args .payload .now)) (c .before .before .before .before .before .place-of .ensures)) (c .before .before .stop .given .1)))
+    (λ c. told-of 2 partReply (c .before .before .before .before .before .before .before .before .args .answer .now) _ _ _
+    (c .before .before .part2 .ensures)
+    (c .before .before .before .before .part .ensures ∙ ap (part _) (c .before .before .before .before .before .of .ensures))))

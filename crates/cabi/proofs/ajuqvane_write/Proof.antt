@@ -3,8 +3,8 @@ use Rattle.cabi.proofs.ajuqvane_write.Statement.{statement}
 use Rattle.cabi.proofs.ajuqvane_write.Tie as tie
 use Rattle.cabi.proofs.ajuqvane_write.Reads as reads
 use Rattle.cabi.proofs.ajuqvane_write.Lts as lts
-use Rattle.write.proofs.clear.Reads as clear-reads
-use Rattle.write.proofs.refusal_number.Reads as refusal-number-reads
+use Rattle.container.proofs.clear.Reads as clear-reads
+use Rattle.frames.proofs.refusal_number.Reads as refusal-number-reads
 use Rattle.write.proofs.write.Reads as write-reads
 use borrow.Author.Needs.{needs}
 use Rattle.cabi.proofs.SentLaws.{sent-none, sent-is, sent-refused}
@@ -15,7 +15,8 @@ ajuqvane-write-spec =
     (tie.spec
     (λ c κs. search needs)
     (λ c. search needs)
-    (λ c. sent-none (c .before .before .before .before .before .before .before .before .before .args .list .now) _ _ _ (c .before .before .before .before .if1 .taken) _ (c .before .before .clear .ensures))
+    (λ c. sent-none (c .before .before .before .before .before .before .before .before .before .args .list .now) _ _ _
+    (c .before .before .before .before .if1 .taken) _ (c .before .before .clear .ensures))
     (λ c κs. search needs)
     (λ c. search needs)
     (λ c. search needs)

@@ -1,7 +1,7 @@
 use borrow.Author.Needs.{needs}
 use Rattle.head.proofs.fixed_size.Statement.{statement}
 use Rattle.head.proofs.fixed_size.Tie as tie
-use Rattle.head.proofs.HeadCases.{size-fixed, size-text, size-positive, size-negative, size-wide, size-behind}
+use Rattle.head.proofs.HeadReturns.{size-fixed, size-text, size-positive, size-negative, size-wide, size-behind}
 
 ruleset laws = (size-fixed, size-text, size-positive, size-negative, size-wide, size-behind, needs)
 

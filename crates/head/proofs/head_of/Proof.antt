@@ -1,7 +1,7 @@
 use borrow.Author.Needs.{needs}
 use Rattle.head.proofs.head_of.Statement.{statement}
 use Rattle.head.proofs.head_of.Tie as tie
-use Rattle.head.proofs.MeetCases.{item-stop, item-leaf, item-fields, item-items}
+use Rattle.head.proofs.ItemReturns.{item-stop, item-leaf, item-fields, item-items}
 
 ruleset laws = (item-stop, item-leaf, item-fields, item-items, needs)
 

@@ -1,7 +1,7 @@
 use borrow.Author.Needs.{needs}
 use Rattle.head.proofs.header_of.Statement.{statement}
 use Rattle.head.proofs.header_of.Tie as tie
-use Rattle.head.proofs.HeadCases.{head-fixed, head-text, head-positive, head-negative, head-wide, head-behind}
+use Rattle.head.proofs.HeadReturns.{head-fixed, head-text, head-positive, head-negative, head-wide, head-behind}
 
 ruleset laws = (head-fixed, head-text, head-positive, head-negative, head-wide, head-behind, needs)
 

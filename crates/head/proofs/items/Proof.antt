@@ -6,7 +6,7 @@ use Rattle.head.proofs.items.Lts as lts
 use Rattle.faults.proofs.note.Reads as note-reads
 use Rattle.number.proofs.read.Reads as read-reads
 use native.Mathlib.Omega.{arith}
-use Rattle.head.proofs.HeadCases.{count-cut, count-whole, count-in}
+use Rattle.head.proofs.HeadReturns.{count-cut, count-whole, count-in}
 
 ruleset laws = (count-cut, count-whole, needs)
 

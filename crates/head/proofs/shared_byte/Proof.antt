@@ -5,7 +5,7 @@ use Rattle.head.proofs.shared_byte.Reads as reads
 use Rattle.head.proofs.shared_byte.Lts as lts
 use Rattle.format.proofs.is_bare.Reads as is-bare-reads
 use Rattle.format.proofs.kind_at.Reads as kind-at-reads
-use Rattle.head.proofs.HeadCases.{items-none, items-unknown, items-zero, items-bare, items-good}
+use Rattle.head.proofs.HeadReturns.{items-none, items-unknown, items-zero, items-bare, items-good}
 
 ruleset laws = (items-none, items-unknown, items-zero, items-bare, items-good, needs)
 

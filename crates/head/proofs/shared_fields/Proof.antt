@@ -4,7 +4,7 @@ use Rattle.head.proofs.shared_fields.Tie as tie
 use Rattle.head.proofs.shared_fields.Reads as reads
 use Rattle.head.proofs.shared_fields.Lts as lts
 use Rattle.format.proofs.kind_at.Reads as kind-at-reads
-use Rattle.head.proofs.HeadCases.{fields-none, fields-unknown, fields-bad, fields-good}
+use Rattle.head.proofs.HeadReturns.{fields-none, fields-unknown, fields-bad, fields-good}
 
 ruleset laws = (fields-none, fields-unknown, fields-bad, fields-good, needs)
 

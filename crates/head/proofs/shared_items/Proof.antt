@@ -7,7 +7,7 @@ use Rattle.head.proofs.shared_byte.Reads as shared-byte-reads
 use Rattle.faults.proofs.note.Reads as note-reads
 use Rattle.number.proofs.read.Reads as read-reads
 use native.Mathlib.Omega.{arith}
-use Rattle.head.proofs.HeadCases.{shared-cut, shared-whole, count-in}
+use Rattle.head.proofs.HeadReturns.{shared-cut, shared-whole, count-in}
 
 ruleset laws = (shared-cut, needs)
 

@@ -47,7 +47,13 @@ read-all-spec =
     (λ c κs. search needs)
     (λ c. search needs)
     (λ c. search needs)
-    (λ c. let x = reached-more _ _ _ (c .before .before .before .before .before .before .before .before .before .before .before .before .before .before .before .loop .inv .2) (c .before .before .before .before .before .before .before .count .result) (c .before .before .before .before .before .before .before .before .before .before .before .before .before .before .before .loop .left) (c .before .before .before .before .before .before .before .before .before .before .before .before .read .last .1 .0) _ _ (c .before .before .before .before .before .before .before .before .before .before .before .before .before .before .before .loop .inv .3) (omega arith) (c .before .before .feed .ensures) in (search needs, search needs, x .0, x .1))
+    (λ c. let x = reached-more _ _ _
+    (c .before .before .before .before .before .before .before .before .before .before .before .before .before .before .before .loop .inv .2)
+    (c .before .before .before .before .before .before .before .count .result)
+    (c .before .before .before .before .before .before .before .before .before .before .before .before .before .before .before .loop .left)
+    (c .before .before .before .before .before .before .before .before .before .before .before .before .read .last .1 .0) _ _
+    (c .before .before .before .before .before .before .before .before .before .before .before .before .before .before .before .loop .inv .3)
+    (omega arith) (c .before .before .feed .ensures) in (search needs, search needs, x .0, x .1))
     (λ c. search needs)
     (λ c. search needs)
     (λ c. search needs))

@@ -4,10 +4,11 @@ use Rattle.read.proofs.lookup.Tie as tie
 use Rattle.read.proofs.lookup.Reads as reads
 use Rattle.read.proofs.lookup.Lts as lts
 use Rattle.read.proofs.look.Reads as look-reads
-use Rattle.read.proofs.open_place.Reads as open-place-reads
+use Rattle.open.proofs.open_place.Reads as open-place-reads
 use borrow.Author.Needs.{needs}
 use mathlib.Core.Path.{_∙_}
-use Rattle.read.proofs.LookLaws.{look-is, object-of}
+use Rattle.open.proofs.OpenLaws.{stands-fields}
+use Rattle.read.proofs.LookLaws.{look-is}
 
 pub lookup-spec : {M : Type 1} → statement M
 lookup-spec =
@@ -17,7 +18,7 @@ lookup-spec =
     (λ c. search needs)
     (λ c. search needs)
     (λ c. search needs)
-    (λ c κs. let w = object-of _ _ _ (c .before .before .before .open-place .ensures) _ _ (c .before .form .given .1) in (w .begins, w .inside, w .short, w .named))
+    (λ c κs. let w = stands-fields _ _ _ (c .before .before .before .open-place .ensures) _ _ (c .before .form .given .1) in (w .last, w .inside, w .short, w .full))
     (λ c. search needs)
     (λ c. look-is _ _ (c .before .before .before .before .before .before .args .name .now) _ (c .before .before .before .open-place .ensures) _ (c .before .stop .given .1))
     (λ c. look-is _ _ (c .before .before .before .before .before .args .name .now) _ (c .before .before .open-place .ensures) _ (c .enum-told .given .1))

@@ -4,11 +4,11 @@ use Rattle.read.proofs.part.Tie as tie
 use Rattle.read.proofs.part.Reads as reads
 use Rattle.read.proofs.part.Lts as lts
 use Rattle.format.proofs.known_of.Reads as known-of-reads
-use Rattle.read.proofs.checked.Reads as checked-reads
+use Rattle.open.proofs.checked.Reads as checked-reads
 use Rattle.read.proofs.size_length.Reads as size-length-reads
 use borrow.Author.Needs.{needs}
 use native.Mathlib.Omega.{arith}
-use Rattle.read.proofs.OpenLaws.{sound-good}
+use Rattle.open.proofs.OpenLaws.{sound-good}
 use Rattle.read.proofs.ViewLaws.{part-fault, part-is, part-fits}
 
 pub part-spec : {M : Type 1} → statement M

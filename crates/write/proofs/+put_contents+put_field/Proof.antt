@@ -8,7 +8,7 @@ use Rattle.write.proofs.put_field.Reads as put-field
 use Rattle.write.proofs.put_field.Kinds as put-field-kinds
 use Rattle.write.proofs.+put_contents+put_field.Lts-put_field as put-field-lts
 use Rattle.write.proofs.final_id.Reads as final-id-reads
-use Rattle.write.proofs.number_at.Reads as number-at-reads
+use Rattle.container.proofs.number_at.Reads as number-at-reads
 use Rattle.write.proofs.put_count.Reads as put-count-reads
 use Rattle.write.proofs.put_front.Reads as put-front-reads
 use Rattle.write.proofs.put_head.Reads as put-head-reads
@@ -23,7 +23,9 @@ use mathlib.Core.Path.{_≡_, refl}
 use mathlib.Core.List.{List}
 use lib.ListN.{length}
 use Rattle.write.proofs.PutField.{put-low, put-deep, put-short, put-inside, put-after, put-id, put-front-room, put-object, put-array, put-object-made, put-array-made, put-leaf-ready, put-leaf-made}
-use Rattle.write.proofs.PutLoop.{PutLoop, put-can, put-mine, put-start, put-stop, put-close-room, put-close, put-item, put-step, put-less}
+use Rattle.write.proofs.PutState.{PutLoop}
+use Rattle.write.proofs.PutStart.{put-can, put-mine, put-start}
+use Rattle.write.proofs.PutLoop.{put-stop, put-close-room, put-close, put-item, put-step, put-less}
 
 abbrev μ-put-contents : Measures 3 put-contents-kinds.ps ℕ
 μ-put-contents κs a = 2 * (a .1 .1 .1 .1 .1 .1 .1 .0) + 1

@@ -1,7 +1,7 @@
 use borrow.Author.Needs.{needs}
 use Rattle.write.proofs.final_id.Statement.{statement}
 use Rattle.write.proofs.final_id.Tie as tie
-use Rattle.write.proofs.PutLaws.{final-object, final-array, final-held, final-kept, final-other}
+use Rattle.write.proofs.AgainReturns.{final-object, final-array, final-held, final-kept, final-other}
 
 ruleset laws = (final-object, final-array, final-held, final-kept, final-other, needs)
 
@@ -10,7 +10,9 @@ final-id-spec =
     tie.close
     (tie.spec
     (λ c κs. search laws)
+    (λ c κs. search laws)
     (λ c. search laws)
+    (λ c κs. search laws)
     (λ c κs. search laws)
     (λ c. search laws)
     (λ c κs. search laws)

@@ -1,9 +1,9 @@
 use borrow.Author.Needs.{needs}
 use Rattle.write.proofs.start_of.Statement.{statement}
 use Rattle.write.proofs.start_of.Tie as tie
-use Rattle.write.proofs.PutLaws.{start-plain, start-stop, start-read, start-fits}
+use Rattle.write.proofs.AgainReturns.{start-plain, start-read, start-fits}
 
-ruleset laws = (start-plain, start-stop, start-read, start-fits, needs)
+ruleset laws = (start-plain, start-read, start-fits, needs)
 
 pub start-of-spec : {M : Type 1} → statement M
 start-of-spec =
@@ -14,11 +14,6 @@ start-of-spec =
     (λ c. search laws)
     (λ c. search laws)
     (λ c κs. search laws)
-    (λ c κs. search laws)
-    (λ c κs. search laws)
-    (λ c. search laws)
-    (λ c. search laws)
-    (λ c. search laws)
     (λ c. search laws)
     (λ c. search laws)
     (λ c. search laws)

@@ -1,0 +1,5 @@
+pub mod FieldCases
+pub mod ReadingOn
+pub mod LoopLaws
+pub mod SizedItems
+pub mod OneAnswer

@@ -1,0 +1,3 @@
+mod Returns
+pub mod Clearing
+pub mod OneAnswer

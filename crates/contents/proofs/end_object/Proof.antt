@@ -1,0 +1,18 @@
+use borrow.Author.Needs.{needs}
+use Rattle.contents.proofs.end_object.Statement.{statement}
+use Rattle.contents.proofs.end_object.Tie as tie
+use Rattle.contents.proofs.EndLaws.{object-asked, object-unasked}
+
+ruleset laws = (object-asked, object-unasked, needs)
+
+pub end-object-spec : {M : Type 1} → statement M
+end-object-spec =
+    tie.close
+    (tie.spec
+    (λ c κs. search laws)
+    (λ c κs. search laws)
+    (λ c κs. search laws)
+    (λ c κs. search laws)
+    (λ c κs. search laws)
+    (λ c. search laws)
+    (λ c. search laws))

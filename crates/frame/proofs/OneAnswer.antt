@@ -1,0 +1,25 @@
+-- No second answer: what the code answers of the pieces of a frame is one equation each.
+use Prim.Native.Nat.{ℕ}
+use mathlib.Core.List.{List}
+use Rattle.number.proofs.OneAnswer.{One, one}
+use Rattle.format.specs.declared.Kind.{Kind}
+use Rattle.frames.specs.FramePieces.{writable}
+use Rattle.frame.specs.Pieces.{nameOf, nameEnd, leafFrameOf, leafEnd, bitsIn}
+
+pub kind-one : (b : ℕ) → One (writable b)
+kind-one b = one (writable b)
+
+pub name-one : (part : List ℕ) → One (nameOf part)
+name-one part = one (nameOf part)
+
+pub name-end-one : (part : List ℕ) → One (nameEnd part)
+name-end-one part = one (nameEnd part)
+
+pub leaf-one : (part : List ℕ) (kind : Kind) → One (leafFrameOf kind part)
+leaf-one part kind = one (leafFrameOf kind part)
+
+pub leaf-end-one : (part : List ℕ) (b : ℕ) → One (leafEnd b part)
+leaf-end-one part b = one (leafEnd b part)
+
+pub bits-one : (part : List ℕ) → One (bitsIn part)
+bits-one part = one (bitsIn part)

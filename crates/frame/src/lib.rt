@@ -1,0 +1,185 @@
+// One frame of the write list, by what stands behind a position of it: a kind, a name, a leaf. Positions in the answers count from there.
+use faults::Modes;
+use format::Flaw;
+use format::Kind;
+use format::Known;
+use frames::Refusal;
+use front::Front;
+use leaves::Heading;
+ghost use mathlib.Core.Path.{_≡_};
+ghost use Rattle.frames.specs.FramePieces.{writable};
+ghost use Rattle.frame.specs.Pieces.{allModes, noModes, nameOf, nameEnd, leafFrameOf, leafEnd, bitsIn};
+
+// ---- what the reading of a leaf or a name is asked for
+
+fn all_modes() -> Modes
+    ensures { λ r. ⌜ r ≡ allModes ⌝ }
+{
+    Modes {
+        names: true,
+        format: true,
+    }
+}
+
+fn no_modes() -> Modes
+    ensures { λ r. ⌜ r ≡ noModes ⌝ }
+{
+    Modes {
+        names: false,
+        format: false,
+    }
+}
+
+// ---- a kind and a name
+
+// The kind of a frame: 03 and 05 are no writable kinds.
+pub fn kind_of(b: u8) -> Known
+    ensures { λ r. ⌜ r ≡ writable b ⌝ }
+{
+    if b == 3 {
+        return Known::Unknown;
+    }
+    if b == 5 {
+        return Known::Unknown;
+    }
+    format::known_of(b)
+}
+
+// A name, by where it stands.
+pub enum Name {
+    Refused(Refusal),
+    At { begin: usize, end: usize },
+}
+
+// The name whose length stands first, whatever names were used.
+pub fn name_of(part: &[u8]) -> Name
+    ensures { λ r. ⌜ r ≡ nameOf (now (part .entry)) ⌝ }
+{
+    match front::name_of(part, Kind::Null, all_modes(), faults::no_faults()) {
+        Front::Stop(stop) => Name::Refused(Refusal::BadFrame),
+        Front::Read {
+            kind: _,
+            name,
+            start,
+            faults,
+        } => {
+            if faults::has(faults, Flaw::Long) {
+                return Name::Refused(Refusal::BadFrame);
+            }
+            if faults::has(faults, Flaw::Blank) {
+                return Name::Refused(Refusal::EmptyName);
+            }
+            if faults::has(faults, Flaw::NotUtf8) {
+                return Name::Refused(Refusal::NotText);
+            }
+            Name::At {
+                begin: name,
+                end: start,
+            }
+        }
+    }
+}
+
+// Where a name that was read before ends.
+pub fn name_end(part: &[u8]) -> usize
+    ensures { λ r. ⌜ r ≡ nameEnd (now (part .entry)) ⌝ }
+{
+    match front::name_of(part, Kind::Null, no_modes(), faults::no_faults()) {
+        Front::Stop(stop) => 0,
+        Front::Read {
+            kind: _,
+            name: _,
+            start,
+            faults: _,
+        } => start,
+    }
+}
+
+// ---- a leaf
+
+// A leaf: where it ends; and its ID and how long its payload is as encoded.
+pub enum LeafFrame {
+    Refused(Refusal),
+    Read { end: usize, id: u8, size: usize },
+}
+
+// The leaf of a kind. A Float64 that Float32 holds counts as the Float32 that it becomes.
+pub fn leaf_of(part: &[u8], kind: Kind) -> LeafFrame
+    ensures { λ r. ⌜ r ≡ leafFrameOf kind (now (part .entry)) ⌝ }
+{
+    match head::head_of(part, kind, all_modes(), faults::no_faults()) {
+        Heading::Stop(stop) => LeafFrame::Refused(Refusal::BadFrame),
+        Heading::Leaf { end, faults } => {
+            if faults::has(faults, Flaw::Long) {
+                return LeafFrame::Refused(Refusal::BadFrame);
+            }
+            if faults::has(faults, Flaw::Low) {
+                return LeafFrame::Refused(Refusal::BadFrame);
+            }
+            if faults::has(faults, Flaw::NotUtf8) {
+                return LeafFrame::Refused(Refusal::NotText);
+            }
+            if faults::has(faults, Flaw::Wide) {
+                return LeafFrame::Read {
+                    end: end,
+                    id: 0x0a,
+                    size: 4,
+                };
+            }
+            LeafFrame::Read {
+                end: end,
+                id: format::id_of(kind),
+                size: end,
+            }
+        }
+        Heading::Fields {
+            form: _,
+            begin: _,
+            end: _,
+            faults: _,
+        } => LeafFrame::Refused(Refusal::BadFrame),
+        Heading::Items {
+            form: _,
+            count: _,
+            begin: _,
+            end: _,
+            faults: _,
+        } => LeafFrame::Refused(Refusal::BadFrame),
+    }
+}
+
+// Where a leaf that was read before ends: b is its kind.
+pub fn leaf_end(part: &[u8], b: u8) -> usize
+    ensures { λ r. ⌜ r ≡ leafEnd b (now (part .entry)) ⌝ }
+{
+    match format::known_of(b) {
+        Known::Unknown => 0,
+        Known::Is(kind) => match head::head_of(part, kind, no_modes(), faults::no_faults()) {
+            Heading::Stop(stop) => 0,
+            Heading::Leaf { end, faults: _ } => end,
+            Heading::Fields {
+                form: _,
+                begin: _,
+                end: _,
+                faults: _,
+            } => 0,
+            Heading::Items {
+                form: _,
+                count: _,
+                begin: _,
+                end: _,
+                faults: _,
+            } => 0,
+        },
+    }
+}
+
+// The eight bytes of a Float64.
+pub fn bits_of(part: &[u8]) -> u64
+    ensures { λ r. ⌜ r ≡ bitsIn (now (part .entry)) ⌝ }
+{
+    match number::read64(part) {
+        number::Fixed64::Cut => 0,
+        number::Fixed64::Whole(bits) => bits,
+    }
+}

@@ -1,0 +1,6 @@
+pub mod AnswerLaws
+pub mod BetweenLaws
+pub mod SpanLaws
+pub mod FrontLaws
+pub mod FrontReturns
+pub mod OneAnswer

@@ -1,8 +1,0 @@
-use borrow.Author.Needs.{needs}
-use Rattle.head.proofs.name_of.Statement.{statement}
-use Rattle.head.proofs.name_of.Tie as tie
-use mathlib.Core.Path.{refl}
-use Rattle.head.proofs.FrontCases.{front-shared}
-
-pub name-of-spec : {M : Type 1} → statement M
-name-of-spec = tie.close (tie.spec (λ c κs. search needs) (λ c. front-shared _ _ _ _ _ _ refl (c .named .ensures)))

@@ -1,0 +1,2 @@
+pub mod LeafReturns
+pub mod OneAnswer

@@ -1,0 +1,9 @@
+mod SmallLaws
+mod Positions
+mod StackCases
+mod FrameCases
+mod FieldCases
+mod LoopState
+mod LoopLaws
+mod Settling
+pub mod OneAnswer

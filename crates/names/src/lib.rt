@@ -1,0 +1,131 @@
+// Whether two fields that stand in a part have equal names.
+use faults::Modes;
+use format::Form;
+use head::Met;
+ghost use mathlib.Core.Path.{_≡_};
+ghost use Prim.Native.Nat.{_≤_};
+ghost use lib.ListN.{length};
+ghost use Rattle.format.specs.Kinds.{any};
+ghost use Rattle.text.specs.Equal.{equal};
+ghost use Rattle.names.specs.FieldNames.{endedAt, nameOf, nameAt, fieldNames, twinsAt};
+
+// A field's name: where it begins and ends, and where the next field stands. Or no field is met.
+pub enum Name {
+    Nothing,
+    At {
+        begin: usize,
+        end: usize,
+        next: usize,
+    },
+}
+
+// The name of a field that ends here, unless the field took no byte.
+fn ended(begin: usize, end: usize, next: usize) -> Name
+    ensures { λ r. ⌜ r ≡ endedAt begin end next ⌝ }
+{
+    if next == 0 {
+        return Name::Nothing;
+    }
+    Name::At {
+        begin: begin,
+        end: end,
+        next: next,
+    }
+}
+
+// The name of a field that was met.
+fn name_of(met: Met) -> Name
+    ensures { λ r. ⌜ r ≡ nameOf met ⌝ }
+{
+    match met {
+        Met::Stop(_) => Name::Nothing,
+        Met::Leaf {
+            kind: _,
+            name,
+            start,
+            end,
+            faults: _,
+        } => ended(name, start, end),
+        Met::Fields {
+            kind: _,
+            name,
+            start,
+            form: _,
+            begin: _,
+            end,
+            faults: _,
+        } => ended(name, start, end),
+        Met::Items {
+            kind: _,
+            name,
+            start,
+            form: _,
+            count: _,
+            begin: _,
+            end,
+            faults: _,
+        } => ended(name, start, end),
+    }
+}
+
+// The name of the field at a position.
+fn name_at(part: &[u8], at: usize, form: Form) -> Name
+    requires { ⌜ at ≤ length (now part) ⌝ }
+    ensures { λ r. ⌜ r ≡ nameAt form at (now (part .entry)) ⌝ }
+{
+    let modes = Modes {
+        names: false,
+        format: false,
+    };
+    let faults = faults::no_faults();
+    match name_of(head::meet_of(&part[at..], form, modes, faults)) {
+        Name::Nothing => Name::Nothing,
+        Name::At { begin, end, next } => Name::At {
+            begin: at + begin,
+            end: at + end,
+            next: at + next,
+        },
+    }
+}
+
+// A field that stands in the part has this name.
+fn has<'a>(part: &'a [u8], form: Form, name: &'a [u8]) -> bool
+    ensures { λ r. ⌜ r ≡ any (equal (now (name .entry))) (fieldNames form (now (part .entry))) ⌝ }
+{
+    let mut from = 0;
+    while from < part.len() {
+        match name_at(part, from, form) {
+            Name::Nothing => {
+                return false;
+            }
+            Name::At { begin, end, next } => {
+                if text::are_equal(name, &part[begin..end]) {
+                    return true;
+                }
+                from = next;
+            }
+        }
+    }
+    false
+}
+
+// Two fields that stand in the part have equal names. (An item's name is empty, so any two items would have.)
+pub fn twins(part: &[u8], form: Form) -> bool
+    ensures { λ r. ⌜ r ≡ twinsAt form (now (part .entry)) ⌝ }
+{
+    let mut at = 0;
+    while at < part.len() {
+        match name_at(part, at, form) {
+            Name::Nothing => {
+                return false;
+            }
+            Name::At { begin, end, next } => {
+                if has(&part[next..], form, &part[begin..end]) {
+                    return true;
+                }
+                at = next;
+            }
+        }
+    }
+    false
+}

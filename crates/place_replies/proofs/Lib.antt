@@ -1,0 +1,2 @@
+pub mod AfterLaws
+pub mod OneAnswer

@@ -1,0 +1,3 @@
+pub mod ReplyLaws
+pub mod TwosLaws
+pub mod OneAnswer

@@ -1,0 +1,4 @@
+pub mod LeafLaws
+pub mod ValueLaws
+pub mod IntegerLaws
+pub mod OneAnswer

@@ -1,9 +1,0 @@
-use Rattle.write.proofs.container_id.Statement.{statement}
-use Rattle.write.proofs.container_id.Tie as tie
-use borrow.Author.Needs.{needs}
-use Rattle.write.proofs.SmallLaws.{id-two, id-three, id-four, id-five}
-
-ruleset laws = (id-two, id-three, id-four, id-five, needs)
-
-pub container-id-spec : {M : Type 1} → statement M
-container-id-spec = tie.close (tie.spec (λ c. search laws) (λ c. search laws) (λ c. search laws) (λ c. search laws))

@@ -1,9 +1,0 @@
-use borrow.Author.Needs.{needs}
-use Rattle.write.proofs.number_at.Statement.{statement}
-use Rattle.write.proofs.number_at.Tie as tie
-use Rattle.write.proofs.PutLaws.{number-past}
-
-ruleset laws = (number-past, needs)
-
-pub number-at-spec : {M : Type 1} → statement M
-number-at-spec = tie.close (tie.spec (λ c. search laws) (λ c. search laws) (λ c. search laws) (λ c. search laws))
