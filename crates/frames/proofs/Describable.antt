@@ -7,11 +7,12 @@ use mathlib.Core.Option.{none}
 use mathlib.Core.List.{List, [], _∷_, _++_, map, append-assoc}
 use lib.ListN.{length, length-append}
 use lib.Dec.{eqb}
+use borrow.Author.Tests.{ne-eqb}
 use Rattle.number.specs.BigEndian.{All}
 use Rattle.text.specs.Equal.{equal}
 use Rattle.text.proofs.Laws.{equal-refl, equal-is}
 use Rattle.format.specs.declared.Kind.{Kind}
-use Rattle.format.specs.declared.Kind.the-variants.{Null, Object, UniformObject, Array, UniformArray, Binary, String, IntegerPositive, IntegerNegative, Float32, Float64, False, True, ObjectAttachment, BinaryAttachment, Hash, Uuid, DateTime, TimeSpan, ObjectId, CustomById, CustomByName}
+use Rattle.format.specs.declared.Kind.the-variants.{Object, Array}
 use Rattle.format.specs.Kinds.{id, any}
 use Rattle.format.specs.Names.{twins}
 use Rattle.format.specs.Tree.{Node, atom, array, object, Tree, NameWithin, NodeWithin, Within}
@@ -19,6 +20,7 @@ use Rattle.format.specs.Payload.{payload}
 use Rattle.format.specs.Encoding.{withSize, concat, leafKind, leafPayload}
 use Rattle.frames.specs.WriteList.{framed, frame, FrameReader, readFrames, readList}
 use Rattle.format.proofs.Lists.{append-nil, all-of}
+use Rattle.format.proofs.KindLaws.{id-range}
 use Rattle.frames.specs.Container.{namePart}
 use Rattle.frames.specs.FramePieces.{modeOf}
 use Rattle.frames.specs.Describe.{close, nodeFrames, framesOf, listOf}
@@ -60,30 +62,7 @@ apart-none (n ∷ ns) = (refl, apart-none ns)
 -- ---- one layer, and every layer
 
 kind-no-close : (k : Kind) → eqb (id k) 0 ≡ false
-kind-no-close = elim [
-  | Null ↦ refl
-  | Object ↦ refl
-  | UniformObject ↦ refl
-  | Array ↦ refl
-  | UniformArray ↦ refl
-  | Binary ↦ refl
-  | String ↦ refl
-  | IntegerPositive ↦ refl
-  | IntegerNegative ↦ refl
-  | Float32 ↦ refl
-  | Float64 ↦ refl
-  | False ↦ refl
-  | True ↦ refl
-  | ObjectAttachment ↦ refl
-  | BinaryAttachment ↦ refl
-  | Hash ↦ refl
-  | Uuid ↦ refl
-  | DateTime ↦ refl
-  | TimeSpan ↦ refl
-  | ObjectId ↦ refl
-  | CustomById ↦ refl
-  | CustomByName ↦ refl
-]
+kind-no-close k = ne-eqb (id k) 0 (λ e. omega (arith, id-range k .0))
 
 node-begins : {A : Type 0} (f : List ℕ → A → List ℕ) (name : List ℕ) (t : Node A) → (b : ℕ) × (u : List ℕ) × (nodeFrames f name t ≡ b ∷ u) × (eqb b 0 ≡ false)
 node-begins f name (atom v) = (id (leafKind v), name ++ leafPayload v, refl, kind-no-close (leafKind v))

@@ -1,5 +1,5 @@
--- Every refusal's number and place, and each order of two, by write lists whose outcomes are computed; what a refusal and a success leave; and the program's own numbers
--- (document 01, "The write list"). The answers are 01's: exchanging two numbers or two orders in the definitions is refused here.
+-- Every refusal's number and place, and each order of two, by write lists whose outcomes are computed; what a refusal and a success leave; and runs of the
+-- program, of which the longest lists are in crates/demands/proofs/Lent.antt (document 01, "The write list"). The answers are 01's: exchanging two numbers or two orders in the definitions is refused here.
 use Prim.Native.Nat.{ℕ, _+_}
 use mathlib.Core.Path.{_≡_, refl}
 use mathlib.Core.List.{List, [], _∷_, _++_, map}
