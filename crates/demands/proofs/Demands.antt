@@ -96,8 +96,8 @@ use Rattle.frames.proofs.Refusals as frames
 --   hexadecimal::character_of, nothing, feed;
 --   container::container_id, type_flags, shared_flags, size_of, pack, size_in, width_in, shared_in, is_uniform_in, store, number_at, clear;
 --   leaves::fixed, positive, negative, float64, text_leaf, custom_by_id, custom_by_name; printing::put_refused, put_encoding;
---   head::fixed_size, meet_of, head_of; Place::of, places::placed; names::twins; frame::kind_of, name_of, name_end, leaf_of, leaf_end, bits_of;
---   open::open_place; measure::measure; replies::number_of, varuint, double, signed, unsigned, ticks;
+--   head::fixed_size, meet_of, head_of; Place::of, places::placed; names::twins; frame::kind_of, name_of, name_at, name_end, leaf_of, leaf_at, leaf_end, bits_of;
+--   open::open_place; settle::decided; measure::measure; replies::number_of, varuint, double, signed, unsigned, ticks;
 --   contents::close, end_object, end_array, item_size, check_sizes; checks::check_field; place_replies::after_of, checked, top, step, part, found
 -- ajuqvane_write_list is the program: it reads, calls `hexadecimal::feed` and `answers::answer`, and writes; no contract can say what is read or written.
 -- "A refused read writes nothing": none of the reading calls is lent anything to write to. The calls for C write their answer's numbers only (`told`, crates/replies/specs/Reply.antt).

@@ -2,7 +2,7 @@
 use Prim.Native.Nat.{ℕ, _-_}
 use mathlib.Core.Bool.{true, false, cond}
 use mathlib.Core.List.{List}
-use lib.ListN.{length, take}
+use lib.ListN.{length, take, drop}
 use lib.Dec.{ltb}
 use Rattle.number.specs.BigEndian.{fromBytes}
 use Rattle.format.specs.declared.Kind.{Kind}
@@ -49,6 +49,10 @@ nameBy total (got n fs r) =
 unfoldable pub nameOf : List ℕ → Name
 nameOf s = nameBy (length s) (readName s)
 
+-- the name whose length stands at a position
+unfoldable pub nameAt : List ℕ → ℕ → Name
+nameAt s at = nameBy (length s) (readName (drop at s))
+
 abbrev pub nameEndBy : ℕ → Out (List ℕ) → ℕ
 nameEndBy total (fault k) = 0
 nameEndBy total (got n fs r) = total - length r
@@ -65,6 +69,10 @@ leafMet total (framed v r) = L.Read (total - length r) (id (leafKind v)) (length
 -- a container is refused
 unfoldable pub leafFrameOf : Kind → List ℕ → LeafFrame
 leafFrameOf k s = leafMet (length s) (leafBy (payload k) s)
+
+-- at a position
+unfoldable pub leafFrameAt : Kind → List ℕ → ℕ → LeafFrame
+leafFrameAt k s at = leafMet (length s) (leafBy (payload k) (drop at s))
 
 abbrev pub endIn : Heading → ℕ
 endIn (H.Stop j) = 0

@@ -1,4 +1,5 @@
-// One frame of the write list, by what stands behind a position of it: a kind, a name, a leaf. Positions in the answers count from there.
+// One frame of the write list, by what stands behind a position of it: a kind, a name, a leaf. Positions in the answers count from there, or from
+// the front of the list where that is lent.
 use faults::Modes;
 use format::Flaw;
 use format::Kind;
@@ -7,8 +8,10 @@ use frames::Refusal;
 use front::Front;
 use leaves::Heading;
 ghost use mathlib.Core.Path.{_≡_};
+ghost use Prim.Native.Nat.{_≤_};
+ghost use lib.ListN.{length, drop};
 ghost use Rattle.frames.specs.FramePieces.{writable};
-ghost use Rattle.frame.specs.Pieces.{allModes, noModes, nameOf, nameEnd, leafFrameOf, leafEnd, bitsIn};
+ghost use Rattle.frame.specs.Pieces.{allModes, noModes, nameOf, nameAt, nameEnd, leafFrameOf, leafFrameAt, leafEnd, bitsIn};
 
 // ---- what the reading of a leaf or a name is asked for
 
@@ -28,6 +31,18 @@ fn no_modes() -> Modes
         names: false,
         format: false,
     }
+}
+
+// ---- a position of the list
+
+// A position, or the list's end if it stands behind that.
+fn inside(list: &[u8], at: usize) -> usize
+    ensures { λ r. ⌜ (r ≤ length (now (list .entry))) × (drop r (now (list .entry)) ≡ drop at (now (list .entry))) ⌝ }
+{
+    if at < list.len() {
+        return at;
+    }
+    list.len()
 }
 
 // ---- a kind and a name
@@ -77,6 +92,20 @@ pub fn name_of(part: &[u8]) -> Name
                 end: start,
             }
         }
+    }
+}
+
+// The name whose length stands at a position of the list; positions in the answer are the list's.
+pub fn name_at(list: &[u8], at: usize) -> Name
+    ensures { λ r. ⌜ r ≡ nameAt (now (list .entry)) at ⌝ }
+{
+    let from = inside(list, at);
+    match name_of(&list[from..]) {
+        Name::Refused(refusal) => Name::Refused(refusal),
+        Name::At { begin, end } => Name::At {
+            begin: from + begin,
+            end: from + end,
+        },
     }
 }
 
@@ -145,6 +174,21 @@ pub fn leaf_of(part: &[u8], kind: Kind) -> LeafFrame
             end: _,
             faults: _,
         } => LeafFrame::Refused(Refusal::BadFrame),
+    }
+}
+
+// The leaf of a kind at a position of the list; its end is the list's.
+pub fn leaf_at(list: &[u8], at: usize, kind: Kind) -> LeafFrame
+    ensures { λ r. ⌜ r ≡ leafFrameAt kind (now (list .entry)) at ⌝ }
+{
+    let from = inside(list, at);
+    match leaf_of(&list[from..], kind) {
+        LeafFrame::Refused(refusal) => LeafFrame::Refused(refusal),
+        LeafFrame::Read { end, id, size } => LeafFrame::Read {
+            end: from + end,
+            id: id,
+            size: size,
+        },
     }
 }
 

@@ -26,11 +26,11 @@ use Rattle.frames.specs.WriteList.{Frames, refused, framed, next, isWritable, l
 use Rattle.measure.specs.declared.Frame.{Frame}
 use Rattle.measure.specs.declared.Frame.the-variants as F
 use Rattle.frame.specs.declared.LeafFrame.{LeafFrame}
-use Rattle.measure.specs.declared.Measured.{Measured}
-use Rattle.measure.specs.declared.Measured.the-variants as M
+use Rattle.settle.specs.declared.Measured.{Measured}
+use Rattle.settle.specs.declared.Measured.the-variants as M
 use Rattle.frames.specs.Container.{namePart}
-use Rattle.measure.specs.Names.{usedAt, nameIn, Stack, Pushed, FrameAt, frameBy, topAfter, leafFrameAt}
-use Rattle.frame.specs.Pieces.{leafMet}
+use Rattle.measure.specs.Names.{usedAt, nameIn, Stack, Pushed, FrameAt, frameBy, topAfter}
+use Rattle.frame.specs.Pieces.{leafMet, leafFrameAt}
 use Rattle.frames.specs.FramePieces.{modeOf, frameFront, IsLeaf, containerOf}
 use Rattle.measure.specs.Passes.{leafMeasured, LeafSmall, payloadMeasured, fieldMeasured, payloadWork, fieldWork, FieldBy, FieldAt, ContentsAt, Lent}
 use Rattle.frames.proofs.Flaws.{untrue}

@@ -36,8 +36,8 @@ use Rattle.frame.specs.declared.Name.the-variants as N
 use Rattle.measure.specs.declared.Frame.{Frame}
 use Rattle.measure.specs.declared.Frame.the-variants as F
 use Rattle.frames.specs.FramePieces.{writable, modeOf, frameFront, nameFront}
-use Rattle.frame.specs.Pieces.{nameBy}
-use Rattle.measure.specs.Names.{nameAt, usedAt, topAfter, NamedAt, FrameAt}
+use Rattle.frame.specs.Pieces.{nameBy, nameAt}
+use Rattle.measure.specs.Names.{usedAt, topAfter, NamedAt, FrameAt}
 use Rattle.frames.proofs.Flaws.{untrue, name-clean}
 use Rattle.frames.proofs.FrontLaws.{never, kindBy, kind-is, not-empty}
 use Rattle.frames.proofs.PlaceLaws.{rest, bytes-drop}

@@ -1,5 +1,5 @@
 mod SmallLaws
-mod Positions
+mod ContainerFits
 mod StackCases
 mod FrameCases
 mod FieldCases

@@ -20,7 +20,7 @@ use Rattle.format.specs.Tree.{Tree}
 use Rattle.format.specs.Encoding.{nodeKind, nodePayload, kindOf, payloadOf}
 use Rattle.frames.specs.WriteList.{Frames, refused, framed, next, readFrames}
 use Rattle.format.proofs.Lists.{append-nil}
-use Rattle.measure.specs.declared.Measured.{Measured}
+use Rattle.settle.specs.declared.Measured.{Measured}
 use Rattle.frames.specs.Container.{nodeOf, ids, containerId, namePart, body, sizeBy, packed, packsOf}
 use Rattle.run.specs.Run.{shared, join, uniform}
 use Rattle.measure.specs.Names.{usedAt, nameIn, Stack, topAfter}
@@ -31,7 +31,7 @@ use Rattle.measure.proofs.StackCases.{used-more}
 use Rattle.frames.proofs.SharedLaws.{concat-snoc, shared-snoc, node-id}
 use Rattle.frames.proofs.ContainerLaws.{node-packs, body-length, payload-length}
 use Rattle.frames.proofs.Used.{Used, read-used}
-use Rattle.measure.specs.declared.Measured.the-variants as M
+use Rattle.settle.specs.declared.Measured.the-variants as M
 use Rattle.measure.proofs.LoopState.{onto, packsIn, Loop}
 
 module _ (d : ℕ) (s : List ℕ) (at : ℕ) (named : Bool) (base k : ℕ) (names₀ w₀ names w : List ℕ) (p j top n sum c : ℕ) (l : Loop d s at named base k names₀ w₀ names w p j top n sum c) where

@@ -23,12 +23,13 @@ use Rattle.frames.specs.Writer.{Outcome, refuse, wrote, outcomeOf, zeros}
 use Rattle.frames.specs.Container.{namePart, packsOf}
 use Rattle.frames.proofs.PlaceLaws.{sets-front, drop-zeros}
 use Rattle.frames.proofs.PackedLaws.{numbers-long}
-use Rattle.measure.specs.declared.Measured.{Measured}
-use Rattle.measure.specs.declared.Measured.the-variants as M
-use Rattle.measure.specs.declared.Settled.{Settled}
-use Rattle.measure.specs.declared.Settled.the-variants as S
+use Rattle.settle.specs.declared.Measured.{Measured}
+use Rattle.settle.specs.declared.Measured.the-variants as M
+use Rattle.settle.specs.declared.Settled.{Settled}
+use Rattle.settle.specs.declared.Settled.the-variants as S
 use Rattle.measure.specs.Passes.{fieldMeasured, fieldWork, FieldAt, Lent}
-use Rattle.measure.specs.Settle.{Measurement, measurement, settledBy, settledAfter, settledWithin, settled, decidedOf}
+use Rattle.measure.specs.Settle.{Measurement, measurement, settledBy, settledAfter, settledWithin, settled}
+use Rattle.settle.specs.Decided.{decidedOf}
 use Rattle.container.proofs.Clearing.{AllZero}
 
 pub lent-start : (s names : List ℕ) → Known s → length s ≤ 65536 → length s ≤ 3 * length names → Lent s names 0 0 0 0
@@ -146,31 +147,6 @@ module _ (d : ℕ) (s : List ℕ) (room : ℕ) (w : List ℕ) where
                 let ps = packsOf d (x .1) in
                 let few = ready-few (length w) room i ps (encoding d (x .1)) (sizesOf d (x .1)) j n h in
                 ap (measurement (S.Ready j n)) (k ∙ put (x .1) few) ∙ by-ready (length w) i ps (outcomeOf room (length w) (encoding d (x .1)) (sizesOf d (x .1))) j n h
-
--- ---- the code of the decision
-
-module _ (m : Measured) (total room numbers : ℕ) where
-  pub decided-refused : (n : Refusal) (p : ℕ) → m ≡ M.Refused n p → S.Refused n p ≡ decidedOf m total room numbers
-  decided-refused n p e = rw e
-
-  module _ (x i z t k : ℕ) (e : m ≡ M.Read x i z t k) where
-    pub decided-after : x < total → S.Refused Complete x ≡ decidedOf m total room numbers
-    decided-after h = rw (e, lt-ltb x total h)
-
-    module _ (l : total ≤ x) where
-      pub decided-few : numbers < k → S.Refused FewWorkNumbers 0 ≡ decidedOf m total room numbers
-      decided-few h = rw (e, le-ltb x total l, lt-ltb numbers k h)
-
-      module _ (q : k ≤ numbers) where
-        pub decided-small : room ≤ z → S.Refused EncodingTooLong 0 ≡ decidedOf m total room numbers
-        decided-small h = rw (e, le-ltb x total l, le-ltb numbers k q, le-leb room z h)
-
-        module _ (u : z < room) where
-          pub decided-big : lengthLimit ≤ z → S.Refused EncodingTooLong 0 ≡ decidedOf m total room numbers
-          decided-big h = rw (e, le-ltb x total l, le-ltb numbers k q, lt-leb room z u, le-leb lengthLimit z h)
-
-          pub decided-done : z < lengthLimit → S.Ready i (z + 1) ≡ decidedOf m total room numbers
-          decided-done h = rw (e, le-ltb x total l, le-ltb numbers k q, lt-leb room z u, lt-leb lengthLimit z h)
 
 -- ---- any list
 

@@ -6,7 +6,7 @@ use Rattle.number.specs.VarUInt.{encoded}
 use Rattle.number.proofs.VarUIntLaws.{encoded-length}
 use Rattle.frame.specs.declared.LeafFrame.{LeafFrame}
 use Rattle.frame.specs.declared.LeafFrame.the-variants as L
-use Rattle.measure.specs.declared.Measured.the-variants as M
+use Rattle.settle.specs.declared.Measured.the-variants as M
 use Rattle.measure.specs.Passes.{leafMeasured, LeafSmall}
 
 -- a width

@@ -1,26 +1,16 @@
--- What the code answers of a frame up to its payload, of a leaf, and of the names that an object has so far, by a position of the list.
+-- What the code answers of a frame up to its payload, and of the names that an object has so far, by a position of the list.
 use Prim.Native.Nat.{ℕ, zero, suc, _+_, _-_, _/_, _%_, _≤_, _<_}
 use mathlib.Core.Path.{_≡_}
 use mathlib.Core.Bool.{Bool, true, cond}
 use mathlib.Core.List.{List, [], _∷_}
 use lib.ListN.{length, drop, take, getD}
 use Rattle.format.specs.declared.Kind.{Kind}
-use Rattle.format.specs.Names.{readName}
-use Rattle.format.specs.Payload.{payload}
 use Rattle.frames.specs.WriteList.{Frames, refused, framed}
-use Rattle.frame.specs.declared.Name.{Name}
 use Rattle.measure.specs.declared.Frame.{Frame}
-use Rattle.frame.specs.declared.LeafFrame.{LeafFrame}
-use Rattle.frames.specs.FramePieces.{modeOf, frameFront, nameFront, leafBy}
-use Rattle.frames.specs.declared.Written.the-variants.{Refused}
+use Rattle.frames.specs.FramePieces.{modeOf, frameFront, nameFront}
 use Rattle.measure.specs.declared.Frame.the-variants as F
-use Rattle.frame.specs.Pieces.{nameBy, leafMet}
 
 -- ---- a name
-
--- the name whose length stands at a position
-unfoldable pub nameAt : List ℕ → ℕ → Name
-nameAt s at = nameBy (length s) (readName (drop at s))
 
 -- a name's number is where the name begins, scaled by this, and how long it is
 abbrev pub nameRadix : ℕ
@@ -61,8 +51,3 @@ pub record NamedAt (s : List ℕ) (at : ℕ) (kind : Kind) (base top : ℕ) (nam
 pub record FrameAt (s : List ℕ) (at : ℕ) (named : Bool) (base top : ℕ) (names names′ : List ℕ) (f : Frame) : Type 0 where
   pub answer : f ≡ frameBy (length s) named top (frameFront (modeOf named (usedAt s names base (top - base))) (drop at s))
   pub stack : Pushed s named top names names′ (frameFront (modeOf named (usedAt s names base (top - base))) (drop at s))
-
--- ---- a leaf
-
-unfoldable pub leafFrameAt : Kind → List ℕ → ℕ → LeafFrame
-leafFrameAt k s at = leafMet (length s) (leafBy (payload k) (drop at s))

@@ -13,11 +13,11 @@ use Rattle.frames.specs.WriteList.{Frames, refused, framed, readFrames}
 use Rattle.frame.specs.declared.LeafFrame.{LeafFrame}
 use Rattle.frames.specs.Container.{namePart, packsOf}
 use Rattle.frames.specs.FramePieces.{modeOf, containerOf}
-use Rattle.measure.specs.declared.Measured.{Measured}
+use Rattle.settle.specs.declared.Measured.{Measured}
 use Rattle.measure.specs.Names.{usedAt, topAfter, Pushed, Stack}
 use Rattle.frames.specs.declared.Written.the-variants.{Refused}
 use Rattle.frame.specs.declared.LeafFrame.the-variants as L
-use Rattle.measure.specs.declared.Measured.the-variants as M
+use Rattle.settle.specs.declared.Measured.the-variants as M
 
 -- a leaf, with what stands before it
 abbrev pub leafMeasured : ℕ → ℕ → ℕ → ℕ → LeafFrame → Measured

@@ -4,6 +4,8 @@ use format::Known;
 use frame::LeafFrame;
 use frame::Name;
 use frames::Refusal;
+use settle::Measured;
+use settle::Settled;
 ghost use mathlib.Core.Path.{_≡_};
 ghost use Prim.Native.Nat.{_+_, _-_, _*_, _≤_, _<_};
 ghost use lib.ListN.{length};
@@ -15,28 +17,14 @@ ghost use Rattle.format.specs.Payload.{payload};
 ghost use Rattle.front.specs.Between.{between};
 ghost use Rattle.frames.specs.Container.{sizeBy, packed};
 ghost use Rattle.frames.specs.FramePieces.{IsLeaf};
-ghost use Rattle.measure.specs.Names.{nameAt, usedAt, Stack, NamedAt, FrameAt, leafFrameAt};
+ghost use Rattle.measure.specs.Names.{usedAt, Stack, NamedAt, FrameAt};
 ghost use Rattle.measure.specs.Passes.{leafMeasured, LeafSmall, FieldAt, ContentsAt, Lent};
-ghost use Rattle.measure.specs.Settle.{measurement, decidedOf, settledWithin, settled};
+ghost use Rattle.measure.specs.Settle.{measurement, settledWithin, settled};
 
 // ---- a name
 
 // A name's number is where the name begins, scaled by this, and how long it is.
 const NAME: u32 = 65536;
-
-// The name whose length stands at a position, whatever names were used.
-fn name_at(list: &[u8], at: usize) -> Name
-    requires { ⌜ (at ≤ length (now list)) × (length (now list) ≤ 65536) ⌝ }
-    ensures { λ r. ⌜ r ≡ nameAt (now (list .entry)) at ⌝ }
-{
-    match frame::name_of(&list[at..]) {
-        Name::Refused(refusal) => Name::Refused(refusal),
-        Name::At { begin, end } => Name::At {
-            begin: at + begin,
-            end: at + end,
-        },
-    }
-}
 
 fn whole(x: u32) -> usize
     ensures { λ r. ⌜ (r ≡ x) × (r < 4294967296) ⌝ }
@@ -78,7 +66,7 @@ fn named_at(list: &[u8], at: usize, kind: Kind, names: &mut [u32], base: usize, 
     requires { ⌜ (0 < at) × (at ≤ length (now list)) × Bytes (now list) × (length (now list) ≤ 65536) × (base ≤ top) × (top < length (now names)) × Stack (now list) (now names) top ⌝ }
     ensures { λ r. ⌜ NamedAt (now (list .entry)) at kind base top (now (names .entry)) (now (names .exit)) r ⌝ }
 {
-    match name_at(list, at) {
+    match frame::name_at(list, at) {
         Name::Refused(refusal) => Frame::Refused(refusal),
         Name::At { begin, end } => {
             if is_used(list, names, base, top, begin, end) {
@@ -123,21 +111,6 @@ fn frame_at(
 
 // ---- a leaf and a container
 
-// The leaf of a kind at a position.
-fn leaf_at(list: &[u8], at: usize, kind: Kind) -> LeafFrame
-    requires { ⌜ (at ≤ length (now list)) × (length (now list) ≤ 65536) × Bytes (now list) × IsLeaf (payload kind) ⌝ }
-    ensures { λ r. ⌜ r ≡ leafFrameAt kind (now (list .entry)) at ⌝ }
-{
-    match frame::leaf_of(&list[at..], kind) {
-        LeafFrame::Refused(refusal) => LeafFrame::Refused(refusal),
-        LeafFrame::Read { end, id, size } => LeafFrame::Read {
-            end: at + end,
-            id: id,
-            size: size,
-        },
-    }
-}
-
 fn width(n: usize) -> usize
     ensures { λ r. ⌜ (r ≡ length (encoded n)) × (1 ≤ r) × (r ≤ 9) ⌝ }
 {
@@ -161,19 +134,6 @@ fn pack(named: bool, shared: u8, count: usize, size: usize) -> u32
 }
 
 // ---- the pass
-
-// A field, measured: where the next frame stands; the ID and how long name and payload are as encoded; how many names there are now, and how
-// many containers.
-pub enum Measured {
-    Refused(Refusal, usize),
-    Read {
-        next: usize,
-        id: u8,
-        size: usize,
-        top: usize,
-        opened: usize,
-    },
-}
 
 fn measured_leaf(leaf: LeafFrame, at: usize, before: usize, top: usize, opened: usize) -> Measured
     requires { ⌜ LeafSmall leaf before ⌝ }
@@ -234,7 +194,7 @@ fn measure_field(
                     left - 1,
                 );
             }
-            measured_leaf(leaf_at(list, start, kind), at, before, above, k)
+            measured_leaf(frame::leaf_at(list, start, kind), at, before, above, k)
         }
     }
 }
@@ -297,45 +257,6 @@ fn measure_contents(
 
 // ---- the whole
 
-// What the list comes to: a refusal and its place; or the ID of the top field and the encoding's length.
-pub enum Settled {
-    Refused(Refusal, usize),
-    Ready { id: u8, length: usize },
-}
-
-// What the measured field comes to: its own refusal; those that only the whole list shows, or the encoding's length.
-fn decided(measured: Measured, list: usize, room: usize, numbers: usize) -> Settled
-    ensures { λ r. ⌜ r ≡ decidedOf measured list room numbers ⌝ }
-{
-    match measured {
-        Measured::Refused(refusal, place) => Settled::Refused(refusal, place),
-        Measured::Read {
-            next,
-            id,
-            size,
-            top: _,
-            opened,
-        } => {
-            if next < list {
-                return Settled::Refused(Refusal::Complete, next);
-            }
-            if numbers < opened {
-                return Settled::Refused(Refusal::FewWorkNumbers, 0);
-            }
-            if room <= size {
-                return Settled::Refused(Refusal::EncodingTooLong, 0);
-            }
-            if format::LENGTH <= size {
-                return Settled::Refused(Refusal::EncodingTooLong, 0);
-            }
-            Settled::Ready {
-                id: id,
-                length: size + 1,
-            }
-        }
-    }
-}
-
 // A list that is not too long, with room for its names.
 fn measure_within(
     list: &[u8],
@@ -355,7 +276,7 @@ fn measure_within(
         return Settled::Refused(Refusal::NoneOpen, 0);
     }
     let measured = measure_field(list, 0, false, names, 0, 0, work, 0, left);
-    let answer = decided(measured, list.len(), room, work.len());
+    let answer = settle::decided(measured, list.len(), room, work.len());
     match answer {
         Settled::Refused(refusal, place) => {
             container::clear(work);

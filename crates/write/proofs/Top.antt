@@ -26,8 +26,8 @@ use Rattle.frames.specs.Container.{typePart, namePart, packsOf}
 use Rattle.frames.proofs.FrontLaws.{never, next-got}
 use Rattle.frames.proofs.PlaceLaws.{sets-over, sets-front, drop-zeros}
 use Rattle.frames.proofs.PackedLaws.{numbers-long}
-use Rattle.measure.specs.declared.Settled.{Settled}
-use Rattle.measure.specs.declared.Settled.the-variants as S
+use Rattle.settle.specs.declared.Settled.{Settled}
+use Rattle.settle.specs.declared.Settled.the-variants as S
 use Rattle.measure.specs.Settle.{Measurement, measurement, settledBy, settledAfter, settledWithin, settled}
 use Rattle.write.specs.declared.Position.{Position}
 use Rattle.write.specs.Passes.{FieldGiven, FieldReady, FieldMakes}

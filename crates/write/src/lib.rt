@@ -1,7 +1,7 @@
 // The writer ("The write list"). The first pass checks every frame and settles the containers' sizes and all IDs. The second pass cannot fail: it writes the
 // encoding from front to back, by the numbers that the first one left.
 use frames::Written;
-use measure::Settled;
+use settle::Settled;
 ghost use mathlib.Core.Path.{_≡_};
 ghost use mathlib.Core.List.{_++_};
 ghost use Prim.Native.Nat.{_+_, _-_, _*_, _≤_, _<_};

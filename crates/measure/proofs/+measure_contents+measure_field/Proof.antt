@@ -12,7 +12,7 @@ use Rattle.container.proofs.container_id.Reads as container-id-reads
 use Rattle.measure.proofs.frame_at.Reads as frame-at-reads
 use Rattle.run.proofs.is_uniform.Reads as is-uniform-reads
 use Rattle.run.proofs.join.Reads as join-reads
-use Rattle.measure.proofs.leaf_at.Reads as leaf-at-reads
+use Rattle.frame.proofs.leaf_at.Reads as leaf-at-reads
 use Rattle.measure.proofs.measured_leaf.Reads as measured-leaf-reads
 use Rattle.measure.proofs.pack.Reads as pack-reads
 use Rattle.measure.proofs.size_of.Reads as size-of-reads
@@ -158,7 +158,7 @@ pub +measure-contents+measure-field-spec : {M : Type 1} → statement M
     (λ c. search fields)
     (λ c. search fields)
     (λ c. field-array _ _ _ _ _ _ _ _ (c .before .before .before .before .before .before .before .before .before .before .before .before .before .before .before .before .before .before .before .before .before .pre .1 .0) (c .before .before .before .before .before .before .before .before .before .before .before .before .before .before .before .before .before .before .before .before .before .pre .1 .1) _ (c .before .before .before .before .before .before .before .before .before .before .before .before .before .before .before .frame-at .ensures) _ _ _ (c .before .before .before .before .before .before .before .before .before .before .before .kind .given .1) _ (c .before .before .before .before .before .before .before .before .before .before .before .before .before .before .before .before .before .if1 .left) _ refl _ _ _ _ _ (c .before .before .before .before .before .before .before .before .before .id-of .ensures) (c .before .before .before .before .before .before .before .if3 .taken) _ refl (c .before .before .before .before .measure-contents2 .ensures))
-    (λ c κs. (frame-inside _ _ _ _ _ _ _ _ (c .before .before .before .before .before .before .before .before .before .before .before .before .before .before .pre .1 .0) (c .before .before .before .before .before .before .before .before .before .before .before .before .before .before .pre .1 .1) _ (c .before .before .before .before .before .before .before .before .frame-at .ensures) _ _ _ (c .before .before .before .before .kind .given .1), c .before .before .before .before .before .before .before .before .before .before .before .before .before .before .pre .1 .1 .short, c .before .before .before .before .before .before .before .before .before .before .before .before .before .before .pre .1 .1 .bytes, frame-leaf _ _ _ _ _ _ _ _ (c .before .before .before .before .before .before .before .before .before .before .before .before .before .before .pre .1 .0) (c .before .before .before .before .before .before .before .before .before .before .before .before .before .before .pre .1 .1) _ (c .before .before .before .before .before .before .before .before .frame-at .ensures) _ _ _ (c .before .before .before .before .kind .given .1) _ (c .before .before .id-of .ensures) (c .before .if2 .left) (c .if3 .left)))
+    (λ c κs. search fields)
     (λ c κs. leaf-sum _ _ _ _ _ _ _ _ (c .before .before .before .before .before .before .before .before .before .before .before .before .before .before .before .pre .1 .0) (c .before .before .before .before .before .before .before .before .before .before .before .before .before .before .before .pre .1 .1) _ (c .before .before .before .before .before .before .before .before .before .frame-at .ensures) _ _ _ (c .before .before .before .before .before .kind .given .1) _ (c .before .before .before .before .before .before .before .before .before .before .before .if1 .left) _ refl _ (c .leaf-at .ensures) (frame-leaf _ _ _ _ _ _ _ _ (c .before .before .before .before .before .before .before .before .before .before .before .before .before .before .before .pre .1 .0) (c .before .before .before .before .before .before .before .before .before .before .before .before .before .before .before .pre .1 .1) _ (c .before .before .before .before .before .before .before .before .before .frame-at .ensures) _ _ _ (c .before .before .before .before .before .kind .given .1) _ (c .before .before .before .id-of .ensures) (c .before .before .if2 .left) (c .before .if3 .left)))
     (λ c. search fields)
     (λ c. field-refused _ _ _ _ _ _ _ _ (c .before .before .before .before .before .before .before .before .before .before .before .pre .1 .0) (c .before .before .before .before .before .before .before .before .before .before .before .pre .1 .1) _ (c .before .before .before .before .before .frame-at .ensures) _ (c .before .before .before .before .before .before .before .if1 .left) _ (c .before .refusal .given .1) _)

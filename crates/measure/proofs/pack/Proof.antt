@@ -1,7 +1,7 @@
 use borrow.Author.Needs.{needs}
 use Rattle.measure.proofs.pack.Statement.{statement}
 use Rattle.measure.proofs.pack.Tie as tie
-use Rattle.measure.proofs.Positions.{pack-fits}
+use Rattle.measure.proofs.ContainerFits.{pack-fits}
 
 ruleset laws = (pack-fits, needs)
 

@@ -1,7 +1,7 @@
 use borrow.Author.Needs.{needs}
 use Rattle.measure.proofs.size_of.Statement.{statement}
 use Rattle.measure.proofs.size_of.Tie as tie
-use Rattle.measure.proofs.Positions.{size-few}
+use Rattle.measure.proofs.ContainerFits.{size-few}
 
 ruleset laws = (size-few, needs)
 

@@ -1,7 +1,7 @@
 use borrow.Author.Needs.{needs}
-use Rattle.measure.proofs.decided.Statement.{statement}
-use Rattle.measure.proofs.decided.Tie as tie
-use Rattle.measure.proofs.Settling.{decided-refused, decided-after, decided-few, decided-small, decided-big, decided-done}
+use Rattle.settle.proofs.decided.Statement.{statement}
+use Rattle.settle.proofs.decided.Tie as tie
+use Rattle.settle.proofs.DecidedReturns.{decided-refused, decided-after, decided-few, decided-small, decided-big, decided-done}
 
 ruleset laws = (decided-refused, decided-after, decided-few, decided-small, decided-big, decided-done, needs)
 

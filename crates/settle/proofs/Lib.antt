@@ -1,0 +1,2 @@
+mod DecidedReturns
+pub mod OneAnswer
