@@ -80,8 +80,9 @@ use Rattle.frames.proofs.Refusals as frames
 --   validate::validate                                  r ≡ mask modes payload                                        crates/validate/src/lib.rt
 --   Place::top                                          r ≡ top payload                                               crates/places/src/lib.rt
 --   open::checked                                       r ≡ checked payload place                                     crates/open/src/lib.rt
---   read::step, part, lookup                            r ≡ step payload container last, ...                          crates/read/src/lib.rt
---   read::view, name_view                               now r ≡ view payload place, nameView payload container last
+--   read::step, lookup                                  r ≡ step payload container last, ...                          crates/read/src/lib.rt
+--   views::part                                         r ≡ part payload place                                        crates/views/src/lib.rt
+--   views::view, name_view                              now r ≡ view payload place, nameView payload container last
 --   values::double, signed, unsigned, ticks             r ≡ double payload place, ...                                 crates/values/src/lib.rt
 --   write::write                                        answer, output, work ≡ written list output work               crates/write/src/lib.rt
 --   answers::whole                                      text ≡ program input ++ what stood behind it                  crates/answers/src/lib.rt
