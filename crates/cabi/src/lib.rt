@@ -124,7 +124,7 @@ pub extern "C" fn ajuqvane_view(
     ensures { λ r. ⌜ afterwards r (now (answer .exit)) ≡ told 2 (partReply (part (now (payload .entry)) (placeOf kind start end depth))) (now (answer .entry)) ⌝ }
 {
     place_replies::part(
-        read::part(payload, Place::of(kind, start, end, depth)),
+        views::part(payload, Place::of(kind, start, end, depth)),
         answer,
     )
 }

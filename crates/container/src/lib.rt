@@ -61,7 +61,7 @@ fn count_width(named: bool, count: u32) -> usize
     if named {
         return 0;
     }
-    number::length(count as u64)
+    encode::length(count as u64)
 }
 
 // The size: the count, the shared byte or the type bytes, and what else the fields have, which is `sum`.

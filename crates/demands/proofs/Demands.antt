@@ -80,8 +80,9 @@ use Rattle.frames.proofs.Refusals as frames
 --   validate::validate                                  r ≡ mask modes payload                                        crates/validate/src/lib.rt
 --   Place::top                                          r ≡ top payload                                               crates/places/src/lib.rt
 --   open::checked                                       r ≡ checked payload place                                     crates/open/src/lib.rt
---   read::step, part, lookup                            r ≡ step payload container last, ...                          crates/read/src/lib.rt
---   read::view, name_view                               now r ≡ view payload place, nameView payload container last
+--   read::step, lookup                                  r ≡ step payload container last, ...                          crates/read/src/lib.rt
+--   views::part                                         r ≡ part payload place                                        crates/views/src/lib.rt
+--   views::view, name_view                              now r ≡ view payload place, nameView payload container last
 --   values::double, signed, unsigned, ticks             r ≡ double payload place, ...                                 crates/values/src/lib.rt
 --   write::write                                        answer, output, work ≡ written list output work               crates/write/src/lib.rt
 --   answers::whole                                      text ≡ program input ++ what stood behind it                  crates/answers/src/lib.rt
@@ -90,7 +91,7 @@ use Rattle.frames.proofs.Refusals as frames
 --   ajuqvane_validate, ajuqvane_check, ajuqvane_top, ajuqvane_step, ajuqvane_view, ajuqvane_lookup, ajuqvane_double, ajuqvane_signed, ajuqvane_unsigned, ajuqvane_ticks,
 --   ajuqvane_write, ajuqvane_varuint, ajuqvane_is_text, ajuqvane_are_equal, ajuqvane_float32_holds, ajuqvane_widen
 -- What these calls share, crate by crate from the bottom up:
---   number::read, length, put, read32, read64, minus_plus_one, ticks; text::is_text, are_equal;
+--   number::read, read32, read64, minus_plus_one, ticks; encode::length, put; text::is_text, are_equal;
 --   float::float32_holds, is_nan32, is_nan64, widen, narrow, of_integer; format::known_of, flags_of, kind_at, id_of, is_bare, stop_value, class_of;
 --   faults::no_faults, note, has, sum_of; run::join, add, is_uniform; front::span_of, text_of, front_of, name_of; frames::refusal_number;
 --   hexadecimal::character_of, nothing, feed;

@@ -9,9 +9,9 @@ use lib.Seq.{sets, length-sets}
 use lib.Dec.{leb}
 use borrow.Author.Tests.{leb-true}
 use Rattle.number.specs.VarUInt.{encoded}
-use Rattle.number.specs.Put.{afterwards, putAt}
-use Rattle.number.specs.declared.Stored.{Stored}
-use Rattle.number.specs.declared.Stored.the-variants.{Done, NoRoom}
+use Rattle.encode.specs.Put.{afterwards, putAt}
+use Rattle.encode.specs.declared.Stored.{Stored}
+use Rattle.encode.specs.declared.Stored.the-variants.{Done, NoRoom}
 
 module _ (n at v : ℕ) (l m : List ℕ) where
   by-room : (room : Bool)

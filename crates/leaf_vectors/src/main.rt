@@ -1,6 +1,6 @@
 // Runs the examples of Spec 2.7 both ways, and the floats of document 01. The stored output is written from the documents.
+use encode::Stored;
 use libc::STDOUT_FILENO;
-use number::Stored;
 use number::VarUInt;
 
 fn wide(b: u8) -> u64 {
@@ -20,7 +20,7 @@ fn put(v: u64, out: &mut [u8]) {
     io::write_all(STDOUT_FILENO, b"put ");
     io::print_hex(STDOUT_FILENO, v, 1);
     io::write_all(STDOUT_FILENO, b": ");
-    match number::put(v, out, 0) {
+    match encode::put(v, out, 0) {
         Stored::Done(n) => {
             print_bytes(&out[..n]);
         }

@@ -114,7 +114,7 @@ fn frame_at(
 fn width(n: usize) -> usize
     ensures { λ r. ⌜ (r ≡ length (encoded n)) × (1 ≤ r) × (r ≤ 9) ⌝ }
 {
-    number::length(n as u64)
+    encode::length(n as u64)
 }
 
 // The size of a container: the names and payloads of its fields take `sum` bytes.

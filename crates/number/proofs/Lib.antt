@@ -4,7 +4,6 @@ pub mod VarUIntLaws
 pub mod NumberThenLaws
 pub mod ReadLaws
 pub mod FixedLaws
-pub mod PutLaws
 pub mod SignedLaws
 pub mod MinusLaws
 pub mod OneAnswer

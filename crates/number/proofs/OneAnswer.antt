@@ -3,9 +3,7 @@
 use Prim.Native.Nat.{ℕ}
 use mathlib.Core.Path.{_≡_, _∙⁻¹_}
 use mathlib.Core.List.{List}
-use lib.ListN.{length}
-use Rattle.number.specs.VarUInt.{varUInt, encoded}
-use Rattle.number.specs.Put.{putAt}
+use Rattle.number.specs.VarUInt.{varUInt}
 use Rattle.number.specs.Fixed.{fixed32, fixed64}
 use Rattle.number.specs.Negative.{negative}
 use Rattle.number.specs.Signed.{fromTwos}
@@ -19,14 +17,6 @@ one d a b e f = e ∙⁻¹ f
 -- not: one that gives every VarUInt one byte; one that calls every form minimal
 pub read-one : (part : List ℕ) → One (varUInt part)
 read-one part = one (varUInt part)
-
--- not: one that takes nine bytes for every number
-pub length-one : (v : ℕ) → One (length (encoded v))
-length-one v = one (length (encoded v))
-
--- the answer and the buffer. Not: one that writes a form longer than it has to be; one that writes where it answers that there is no room
-pub put-one : (v : ℕ) (out : List ℕ) (at : ℕ) → One (putAt v out at)
-put-one v out at = one (putAt v out at)
 
 -- not: one that reads the least byte first
 pub read32-one : (part : List ℕ) → One (fixed32 part)

@@ -1,6 +1,5 @@
 pub mod BigEndian
 pub mod VarUInt
 pub mod Signed
-pub mod Put
 pub mod Fixed
 pub mod Negative

@@ -27,8 +27,15 @@ use Rattle.open.specs.declared.Opened.the-variants as O
 use Rattle.open.specs.Opening.{openedBy}
 use Rattle.read.specs.Code.{lookBy}
 use Rattle.format.proofs.HeadParts.{Full}
+use Rattle.places.proofs.StepFields.{Along, in-along}
 use Rattle.open.proofs.OpenLaws.{slice-is}
-use Rattle.read.proofs.ViewLaws.{step-along}
+
+-- ---- where a field that a step meets stands
+
+pub step-along : (s : List ℕ) (c : Place) (f : Form) (begin at : ℕ) → c .end ≤ length s → (x : Step) → x ≡ stepIn s c f begin at
+    → (p : Place) (n : ℕ) → x ≡ St.Field p n
+    → Along f (c .depth + 1) at (c .end) p n
+step-along s c f begin at i x e p n z = in-along s c f begin at p n i (sym e ∙ z)
 
 -- ---- steps with a check each, and steps in contents that were checked once
 

@@ -14,9 +14,9 @@ use borrow.Author.Tests.{le-leb}
 use Rattle.number.proofs.Clash.{clash}
 use Rattle.number.specs.BigEndian.{toBytes}
 use Rattle.number.specs.VarUInt.{encoded}
-use Rattle.number.specs.Put.{afterwards, putAt}
-use Rattle.number.specs.declared.Stored.{Stored}
-use Rattle.number.specs.declared.Stored.the-variants.{Done, NoRoom}
+use Rattle.encode.specs.Put.{afterwards, putAt}
+use Rattle.encode.specs.declared.Stored.{Stored}
+use Rattle.encode.specs.declared.Stored.the-variants.{Done, NoRoom}
 use Rattle.format.specs.Kinds.{flags}
 use Rattle.front.specs.Between.{between}
 use Rattle.frames.specs.Container.{countPart, typePart, typeMark, sharedIn}

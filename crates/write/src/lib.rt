@@ -50,9 +50,9 @@ fn put_number(out: &mut [u8], at: usize, n: usize) -> usize
     requires { ⌜ at + length (encoded n) ≤ length (now out) ⌝ }
     ensures { λ r. ⌜ (r ≡ at + length (encoded n)) × (now (out .exit) ≡ sets (now (out .entry)) at (encoded n)) ⌝ }
 {
-    match number::put(n as u64, out, at) {
-        number::Stored::NoRoom => at,
-        number::Stored::Done(next) => next,
+    match encode::put(n as u64, out, at) {
+        encode::Stored::NoRoom => at,
+        encode::Stored::Done(next) => next,
     }
 }
 

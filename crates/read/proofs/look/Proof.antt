@@ -7,8 +7,7 @@ use Rattle.text.proofs.are_equal.Reads as are-equal-reads
 use borrow.Author.Needs.{needs}
 use Prim.Native.Nat.{_-_}
 use native.Mathlib.Omega.{arith}
-use Rattle.read.proofs.ViewLaws.{step-along}
-use Rattle.read.proofs.LookLaws.{Looking, look-start, look-end, look-none, look-wrong, look-fault, look-found, look-on}
+use Rattle.read.proofs.LookLaws.{step-along, Looking, look-start, look-end, look-none, look-wrong, look-fault, look-found, look-on}
 
 abbrev Inv-loop : tie.InvT-loop
 Inv-loop payload object form begin name end at₀ at = Looking payload object form begin name at

@@ -1,8 +1,8 @@
--- `number::needed` meets its contract: each answer of the ladder is the number of bounds that are reached. Assumes nothing.
+-- `encode::needed` meets its contract: each answer of the ladder is the number of bounds that are reached. Assumes nothing.
 use borrow.Author.Needs.{needs}
 use Rattle.number.proofs.VarUIntLaws.{needed-at}
-use Rattle.number.proofs.needed.Statement.{statement}
-use Rattle.number.proofs.needed.Tie as tie
+use Rattle.encode.proofs.needed.Statement.{statement}
+use Rattle.encode.proofs.needed.Tie as tie
 
 ruleset laws = (needed-at, needs)
 

@@ -1,12 +1,12 @@
 use borrow.Author.Needs.{needs}
-use Rattle.read.proofs.name_view.Statement.{statement}
-use Rattle.read.proofs.name_view.Tie as tie
-use Rattle.read.proofs.name_view.Reads as reads
-use Rattle.read.proofs.name_view.Lts as lts
+use Rattle.views.proofs.name_view.Statement.{statement}
+use Rattle.views.proofs.name_view.Tie as tie
+use Rattle.views.proofs.name_view.Reads as reads
+use Rattle.views.proofs.name_view.Lts as lts
 use Rattle.read.proofs.step.Reads as step-reads
 use borrow.Author.Needs.{needs}
 use native.Mathlib.Omega.{arith}
-use Rattle.read.proofs.ViewLaws.{name-lies, name-is, name-none}
+use Rattle.views.proofs.ViewLaws.{name-lies, name-is, name-none}
 
 pub name-view-spec : {M : Type 1} → statement M
 name-view-spec =

@@ -1,15 +1,15 @@
 use borrow.Author.Needs.{needs}
-use Rattle.read.proofs.part.Statement.{statement}
-use Rattle.read.proofs.part.Tie as tie
-use Rattle.read.proofs.part.Reads as reads
-use Rattle.read.proofs.part.Lts as lts
+use Rattle.views.proofs.part.Statement.{statement}
+use Rattle.views.proofs.part.Tie as tie
+use Rattle.views.proofs.part.Reads as reads
+use Rattle.views.proofs.part.Lts as lts
 use Rattle.format.proofs.known_of.Reads as known-of-reads
 use Rattle.open.proofs.checked.Reads as checked-reads
-use Rattle.read.proofs.size_length.Reads as size-length-reads
+use Rattle.views.proofs.size_length.Reads as size-length-reads
 use borrow.Author.Needs.{needs}
 use native.Mathlib.Omega.{arith}
 use Rattle.open.proofs.OpenLaws.{sound-good}
-use Rattle.read.proofs.ViewLaws.{part-fault, part-is, part-fits}
+use Rattle.views.proofs.ViewLaws.{part-fault, part-is, part-fits}
 
 pub part-spec : {M : Type 1} → statement M
 part-spec =

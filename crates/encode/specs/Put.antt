@@ -5,9 +5,9 @@ use mathlib.Core.List.{List}
 use lib.ListN.{length}
 use lib.Seq.{sets}
 use lib.Dec.{leb}
 use Rattle.number.specs.VarUInt.{encoded}
-use Rattle.number.specs.declared.Stored.{Stored}
-use Rattle.number.specs.declared.Stored.the-variants.{Done, NoRoom}
+use Rattle.encode.specs.declared.Stored.{Stored}
+use Rattle.encode.specs.declared.Stored.the-variants.{Done, NoRoom}
 
 -- the answer, and what the buffer holds afterwards
 pub record Afterwards : Type 0 where

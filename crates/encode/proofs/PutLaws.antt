@@ -8,11 +8,11 @@ use mathlib.Core.List.{List, [], _∷_}
 use lib.ListN.{length, set}
 use lib.Seq.{sets, set-comm, length-sets}
 use borrow.Author.Tests.{le-leb, lt-leb}
 use Rattle.number.specs.BigEndian.{toBytes}
 use Rattle.number.specs.VarUInt.{reached, bounds, lead, encoded}
-use Rattle.number.specs.Put.{afterwards, putAt}
-use Rattle.number.specs.declared.Stored.the-variants.{Done, NoRoom}
+use Rattle.encode.specs.Put.{afterwards, putAt}
+use Rattle.encode.specs.declared.Stored.the-variants.{Done, NoRoom}
 use Rattle.number.proofs.VarUIntLaws.{measured, encoded-first, encoded-at}
 
 -- an element before a run of stores
 set-sets : (vs l : List ℕ) (i j a : ℕ) → i < j → set (sets l j vs) i a ≡ sets (set l i a) j vs

@@ -1,11 +1,11 @@
--- `number::put` meets its contract. Assumes nothing.
+-- `encode::put` meets its contract. Assumes nothing.
 use Prim.Native.Nat.{_+_}
 use native.Mathlib.Omega.{arith}
 use borrow.Author.Needs.{needs}
 use Rattle.number.proofs.VarUIntLaws.{needed-most}
-use Rattle.number.proofs.PutLaws.{first-fits, put-none, put-done}
-use Rattle.number.proofs.put.Statement.{statement}
-use Rattle.number.proofs.put.Tie as tie
+use Rattle.encode.proofs.PutLaws.{first-fits, put-none, put-done}
+use Rattle.encode.proofs.put.Statement.{statement}
+use Rattle.encode.proofs.put.Tie as tie
 
 pub put-spec : {M : Type 1} → statement M
 put-spec =

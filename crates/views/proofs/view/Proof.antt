@@ -1,12 +1,12 @@
 use borrow.Author.Needs.{needs}
-use Rattle.read.proofs.view.Statement.{statement}
-use Rattle.read.proofs.view.Tie as tie
-use Rattle.read.proofs.view.Reads as reads
-use Rattle.read.proofs.view.Lts as lts
-use Rattle.read.proofs.part.Reads as part-reads
+use Rattle.views.proofs.view.Statement.{statement}
+use Rattle.views.proofs.view.Tie as tie
+use Rattle.views.proofs.view.Reads as reads
+use Rattle.views.proofs.view.Lts as lts
+use Rattle.views.proofs.part.Reads as part-reads
 use borrow.Author.Needs.{needs}
 use native.Mathlib.Omega.{arith}
-use Rattle.read.proofs.ViewLaws.{view-is, view-none, view-lies}
+use Rattle.views.proofs.ViewLaws.{view-is, view-none, view-lies}
 
 pub view-spec : {M : Type 1} → statement M
 view-spec =

@@ -17,7 +17,6 @@ use Rattle.format.specs.declared.Kind.the-variants.{Float32, Float64, False, Tr
 use Rattle.format.specs.declared.Kind.the-variants.{ObjectId, CustomById, CustomByName}
 use Rattle.format.specs.declared.Known.{Known}
 use Rattle.format.specs.declared.Known.the-variants as W
-use Rattle.format.specs.declared.Form.{Form}
 use Rattle.format.specs.declared.Stop.{Stop}
 use Rattle.places.specs.declared.Place.{Place}
 use Rattle.places.specs.declared.After.{After}
@@ -30,18 +29,11 @@ use Rattle.places.specs.declared.Part.the-variants as P
 use Rattle.format.specs.Kinds.{id, known, hasSize}
 use Rattle.format.specs.Parse.{Out, fault, got}
 use Rattle.format.specs.Payload.{Head}
-use Rattle.places.specs.Places.{check, checkedOf, checked, from, stepIn, step, nameIn, nameView, taken, sizeLength, partOf, part, view}
+use Rattle.places.specs.Places.{check, checkedOf, checked, from, step, nameIn, nameView, taken, sizeLength, partOf, part, view}
 use Rattle.front.specs.Between.{between}
-use Rattle.places.proofs.StepFields.{Along, in-along, step-inv}
+use Rattle.places.proofs.StepFields.{in-along, step-inv}
 use Rattle.open.proofs.OpenLaws.{sound-good, slice-is}
 use Rattle.number.proofs.Clash.{clash}
-
--- ---- where a field that a step meets stands
-
-pub step-along : (s : List ℕ) (c : Place) (f : Form) (begin at : ℕ) → c .end ≤ length s → (x : Step) → x ≡ stepIn s c f begin at
-    → (p : Place) (n : ℕ) → x ≡ St.Field p n
-    → Along f (c .depth + 1) at (c .end) p n
-step-along s c f begin at i x e p n z = in-along s c f begin at p n i (sym e ∙ z)
 
 -- ---- the name that a step meets
 

@@ -1,9 +1,9 @@
--- `number::length` meets its contract. Assumes nothing.
+-- `encode::length` meets its contract. Assumes nothing.
 use native.Mathlib.Omega.{arith}
 use borrow.Author.Needs.{needs}
 use Rattle.number.proofs.VarUIntLaws.{needed-most, measured}
-use Rattle.number.proofs.length.Statement.{statement}
-use Rattle.number.proofs.length.Tie as tie
+use Rattle.encode.proofs.length.Statement.{statement}
+use Rattle.encode.proofs.length.Tie as tie
 
 pub length-spec : {M : Type 1} → statement M
 length-spec =

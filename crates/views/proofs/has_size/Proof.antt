@@ -1,10 +1,10 @@
 use borrow.Author.Needs.{needs}
-use Rattle.read.proofs.has_size.Statement.{statement}
-use Rattle.read.proofs.has_size.Tie as tie
-use Rattle.read.proofs.has_size.Reads as reads
-use Rattle.read.proofs.has_size.Lts as lts
+use Rattle.views.proofs.has_size.Statement.{statement}
+use Rattle.views.proofs.has_size.Tie as tie
+use Rattle.views.proofs.has_size.Reads as reads
+use Rattle.views.proofs.has_size.Lts as lts
 use Rattle.format.proofs.id_of.Reads as id-of-reads
-use Rattle.read.proofs.ViewLaws.{size-is}
+use Rattle.views.proofs.ViewLaws.{size-is}
 use borrow.Author.Needs.{needs}
 
 ruleset laws = (size-is, needs)

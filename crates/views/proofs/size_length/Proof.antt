@@ -1,11 +1,11 @@
 use borrow.Author.Needs.{needs}
-use Rattle.read.proofs.size_length.Statement.{statement}
-use Rattle.read.proofs.size_length.Tie as tie
-use Rattle.read.proofs.size_length.Reads as reads
-use Rattle.read.proofs.size_length.Lts as lts
+use Rattle.views.proofs.size_length.Statement.{statement}
+use Rattle.views.proofs.size_length.Tie as tie
+use Rattle.views.proofs.size_length.Reads as reads
+use Rattle.views.proofs.size_length.Lts as lts
 use Rattle.number.proofs.read.Reads as read-reads
-use Rattle.read.proofs.has_size.Reads as has-size-reads
-use Rattle.read.proofs.ViewLaws.{size-none, size-cut, size-whole}
+use Rattle.views.proofs.has_size.Reads as has-size-reads
+use Rattle.views.proofs.ViewLaws.{size-none, size-cut, size-whole}
 use borrow.Author.Needs.{needs}
 
 ruleset laws = (size-none, size-cut, size-whole, needs)

@@ -1,9 +1,9 @@
--- `number::scatter` meets its contract. The loop's invariant: the bytes behind `at + i` are put. Assumes nothing.
+-- `encode::scatter` meets its contract. The loop's invariant: the bytes behind `at + i` are put. Assumes nothing.
 use native.Mathlib.Omega.{arith}
 use borrow.Author.Needs.{needs}
-use Rattle.number.proofs.PutLaws.{Scattered, scattered-start, scattered-again, scattered-end, scattered-length}
-use Rattle.number.proofs.scatter.Statement.{statement}
-use Rattle.number.proofs.scatter.Tie as tie
+use Rattle.encode.proofs.PutLaws.{Scattered, scattered-start, scattered-again, scattered-end, scattered-length}
+use Rattle.encode.proofs.scatter.Statement.{statement}
+use Rattle.encode.proofs.scatter.Tie as tie
 
 abbrev Inv-loop : tie.InvT-loop
 Inv-loop v out₀ at n rest₀ i₀ out rest i = Scattered v at n out₀ out rest i
