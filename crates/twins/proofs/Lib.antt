@@ -18,4 +18,5 @@ pub mod SomeLaws
 pub mod PassUntil
 pub mod PassLayer
 pub mod WalkLaws
+pub mod OwnLaws
 pub mod PinnedTwins

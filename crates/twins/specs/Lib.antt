@@ -5,3 +5,4 @@ pub mod Over
 pub mod Table
 pub mod Some
 pub mod Walk
+pub mod Own
