@@ -4,7 +4,7 @@ use native.Mathlib.Omega.{arith}
 use mathlib.Core.Path.{_≡_, refl, sym, ap, _∙_}
 use mathlib.Core.Bool.{Bool, true, false, cond}
 use mathlib.Core.List.{List, [], _∷_, _++_, append-assoc}
-use lib.ListN.{length, drop, length-append, length-drop}
+use lib.ListN.{length, drop, length-append, length-drop, drop-of-length-le}
 use lib.Seq.{take-at, drop-at, drop-drop}
 use lib.Dec.{eqb}
 use borrow.Author.Tests.{le-ltb, eqb-true, eqb-false}
@@ -122,6 +122,15 @@ module _ (f : Form) (m : Modes) (g : Faults) (s : List ℕ) (a : ℕ) (x : Met) 
     name-at-inside l =
         let w = name-found f (drop a s) (sym met-name ∙ z) in
         (omega arith, omega arith, omega (arith, length-drop a s))
+
+-- behind the end
+pub name-at-past : (f : Form) (s : List ℕ) (a : ℕ) → length s < a → N.Nothing ≡ nameAt f a s
+unfolding nameAt
+name-at-past f s a l = rw (drop-of-length-le s {i = a} (omega arith)) (at (meeting f []))
+  where
+    at : (o : Out ((List ℕ × Kind) × (List ℕ × Head))) → N.Nothing ≡ behind a (nameIn 0 o)
+    at (fault k) = refl
+    at (got x fs r) = rw (let z : 0 - length r ≡ 0 = omega arith in z)
 
 module _ (f : Form) (s : List ℕ) (a : ℕ) (x : Name) (e : x ≡ nameAt f a s) where
   pub none-at : x ≡ N.Nothing → fieldNames f (drop a s) ≡ []

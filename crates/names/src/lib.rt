@@ -68,11 +68,13 @@ fn name_of(met: Met) -> Name
     }
 }
 
-// The name of the field at a position.
-fn name_at(part: &[u8], at: usize, form: Form) -> Name
-    requires { ⌜ at ≤ length (now part) ⌝ }
+// The name of the field at a position. Behind the part's end no field is met.
+pub fn name_at(part: &[u8], at: usize, form: Form) -> Name
     ensures { λ r. ⌜ r ≡ nameAt form at (now (part .entry)) ⌝ }
 {
+    if part.len() < at {
+        return Name::Nothing;
+    }
     let modes = Modes {
         names: false,
         format: false,
