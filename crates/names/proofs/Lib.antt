@@ -1,5 +1,6 @@
 pub mod NameBound
 pub mod NameFound
+pub mod NameApart
 pub mod NameWalk
 pub mod ReadNames
 pub mod OneAnswer

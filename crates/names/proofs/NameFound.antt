@@ -70,7 +70,7 @@ name-none f s h = names-step f s ∙ at (meeting f s) h
         go true q h = rw (le-ltb (length r) (length s) (omega (arith, eqb-true (length s - length r) 0 q)))
         go false q h = clash cc
 
-name-found : (f : Form) (s : List ℕ) {b e n : ℕ} → nameIn (length s) (meeting f s) ≡ N.At b e n → Found f s 0 b e n
+pub name-found : (f : Form) (s : List ℕ) {b e n : ℕ} → nameIn (length s) (meeting f s) ≡ N.At b e n → Found f s 0 b e n
 name-found f s {b} {e} {n} h = at (meeting f s) refl h
   where
     at : (o : Out ((List ℕ × Kind) × (List ℕ × Head))) → meeting f s ≡ o → nameIn (length s) o ≡ N.At b e n → Found f s 0 b e n
@@ -123,10 +123,10 @@ module _ (f : Form) (m : Modes) (g : Faults) (s : List ℕ) (a : ℕ) (x : Met) 
         let w = name-found f (drop a s) (sym met-name ∙ z) in
         (omega arith, omega arith, omega (arith, length-drop a s))
 
--- behind the end
-pub name-at-past : (f : Form) (s : List ℕ) (a : ℕ) → length s < a → N.Nothing ≡ nameAt f a s
+-- at the end and behind it
+pub name-at-past : (f : Form) (s : List ℕ) (a : ℕ) → length s ≤ a → N.Nothing ≡ nameAt f a s
 unfolding nameAt
-name-at-past f s a l = rw (drop-of-length-le s {i = a} (omega arith)) (at (meeting f []))
+name-at-past f s a l = rw (drop-of-length-le s {i = a} l) (at (meeting f []))
   where
     at : (o : Out ((List ℕ × Kind) × (List ℕ × Head))) → N.Nothing ≡ behind a (nameIn 0 o)
     at (fault k) = refl

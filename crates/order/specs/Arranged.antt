@@ -1,0 +1,69 @@
+-- A table, arranged: its entries in order, up to the first that has the name of one before it in the part.
+use Prim.Native.Nat.{ℕ, _-_, _*_, _/_}
+use mathlib.Core.Bool.{Bool, true, false, cond, _&&_, _||_}
+use mathlib.Core.List.{List, [], _∷_, _++_}
+use lib.ListN.{length, take, drop, replicate}
+use lib.Dec.{ltb}
+use Rattle.text.specs.Equal.{equal}
+use Rattle.order.specs.Entry.{beginIn, nameIn}
+use Rattle.order.specs.Order.{upto}
+use Rattle.order.specs.declared.Arranged.{Arranged}
+use Rattle.order.specs.declared.Arranged.the-variants.{NoRoom, Done}
+
+abbrev pub sameName : List ℕ → ℕ → ℕ → Bool
+sameName s x y = equal (nameIn s x) (nameIn s y)
+
+-- x begins before e and has its name
+unfoldable pub isFirst : List ℕ → ℕ → ℕ → Bool
+isFirst s x e = ltb (beginIn x) (beginIn e) && sameName s x e
+
+-- some entry does
+unfoldable pub isTwin : List ℕ → List ℕ → ℕ → Bool
+isTwin s [] e = false
+isTwin s (x ∷ t) e = isFirst s x e || isTwin s t e
+
+abbrev pub lesser : ℕ → ℕ → ℕ
+lesser a b = cond (ltb a b) a b
+
+-- where the first of some entries begins that is a twin in t; 16777216 if none is
+unfoldable pub leastOf : List ℕ → List ℕ → List ℕ → ℕ
+leastOf s t [] = 16777216
+leastOf s t (e ∷ es) = cond (isTwin s t e) (lesser (beginIn e) (leastOf s t es)) (leastOf s t es)
+
+abbrev pub least : List ℕ → List ℕ → ℕ
+least s t = leastOf s t t
+
+-- the entries that begin before a place
+unfoldable pub before : ℕ → List ℕ → List ℕ
+before p [] = []
+before p (e ∷ es) = cond (ltb (beginIn e) p) (e ∷ before p es) (before p es)
+
+abbrev pub kept : List ℕ → List ℕ → List ℕ
+kept s t = before (least s t) t
+
+unfoldable pub inserted : List ℕ → ℕ → List ℕ → List ℕ
+inserted s x [] = x ∷ []
+inserted s x (y ∷ t) = cond (upto s x y) (x ∷ y ∷ t) (y ∷ inserted s x t)
+
+unfoldable pub ordered : List ℕ → List ℕ → List ℕ
+ordered s [] = []
+ordered s (x ∷ t) = inserted s x (ordered s t)
+
+-- the answer, and what the table holds afterwards
+pub record Afterwards : Type 0 where
+  pub answer : Arranged
+  pub held : List ℕ
+
+abbrev pub afterwards : Arranged → List ℕ → Afterwards
+afterwards a t = record { answer = a; held = t }
+
+-- what is kept of some entries, in order, and zeros up to a length
+unfoldable pub settled : List ℕ → List ℕ → ℕ → List ℕ
+settled s t n = ordered s (kept s t) ++ replicate (n - length (kept s t)) 0
+
+-- the first n entries, with as much room behind them; where there is less, nothing
+unfoldable pub arranged : List ℕ → List ℕ → ℕ → Afterwards
+arranged s t n =
+    cond (ltb (length t / 2) n)
+    (afterwards NoRoom t)
+    (afterwards (Done (length (kept s (take n t))) (least s (take n t))) (settled s (take n t) (2 * n) ++ drop (2 * n) t))

@@ -1,0 +1,5 @@
+pub mod Entry
+pub mod Order
+pub mod Arranged
+pub mod Sorted
+pub mod Passes

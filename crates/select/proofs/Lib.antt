@@ -1,0 +1,6 @@
+mod RangeReturns
+mod RangeLaws
+mod HalfLaws
+mod CutLaws
+mod PassLaws
+mod WalkLaws

@@ -1,0 +1,78 @@
+-- The walk over the names of a part: what was met so far, and what comes.
+use Prim.Native.Nat.{ℕ, zero, suc, _+_, _-_, _≤_, _<_}
+use native.Mathlib.Omega.{arith}
+use mathlib.Core.Path.{_≡_, refl, sym, ap, _∙_}
+use mathlib.Core.List.{List, [], _∷_, _++_, append-assoc, append-nil}
+use lib.ListN.{length}
+use Rattle.names.specs.declared.Name.{Name}
+use Rattle.names.specs.declared.Name.the-variants as N
+use Rattle.names.proofs.NameFound.{found-at, name-at-past}
+use Rattle.order.specs.Entry.{entryOf}
+use Rattle.order.specs.Sorted.{In}
+use Rattle.order.proofs.NeighbourLaws.{in-left, in-last}
+use Rattle.select.specs.declared.Source.{Source}
+use Rattle.select.specs.declared.Source.the-variants as S
+use Rattle.select.specs.Source.{namedAt, entriesAfter, entriesFrom, entriesOf}
+
+-- ---- the name at a position
+
+named-on : (o : Source) (s : List ℕ) (a b e n : ℕ) → a ≤ length s → namedAt o a s ≡ N.At b e n → (a < n) × (n ≤ length s)
+named-on (S.Fields f) s a b e n l h = let w = found-at f s a (N.At b e n) (sym h) l b e n refl in (w .onward, w .inside)
+
+named-past : (o : Source) (s : List ℕ) (a : ℕ) → length s ≤ a → namedAt o a s ≡ N.Nothing
+named-past (S.Fields f) s a l = sym (name-at-past f s a l)
+
+-- ---- the walk
+
+pub record Walked (o : Source) (s ws : List ℕ) (at : ℕ) : Type 0 where
+  pub fuel : ℕ
+  pub enough : length s ≤ at + fuel
+  pub inside : at ≤ length s
+  pub whole : entriesOf o s ≡ ws ++ entriesFrom o s fuel at
+
+pub walk-starts : (o : Source) (s : List ℕ) → Walked o s [] 0
+walk-starts o s = record { fuel = length s; enough = omega arith; inside = omega arith; whole = refl }
+
+module _ (o : Source) (s ws : List ℕ) (at : ℕ) (w : Walked o s ws at) where
+  ended : namedAt o at s ≡ N.Nothing → entriesOf o s ≡ ws
+  unfolding entriesFrom
+  ended h = w .whole ∙ go (w .fuel)
+    where
+      go : (k : ℕ) → ws ++ entriesFrom o s k at ≡ ws
+      go zero = append-nil ws
+      go (suc k) = rw h (append-nil ws)
+
+  pub walk-ends : length s ≤ at → entriesOf o s ≡ ws
+  walk-ends l = ended (named-past o s at l)
+
+  module _ (x : Name) (e : x ≡ namedAt o at s) where
+    pub walk-stops : x ≡ N.Nothing → entriesOf o s ≡ ws
+    walk-stops h = ended (sym e ∙ h)
+
+    module _ (l : at < length s) (b f n : ℕ) (h : x ≡ N.At b f n) where
+      onward : (at < n) × (n ≤ length s)
+      onward = named-on o s at b f n (omega arith) (sym e ∙ h)
+
+      pub walk-less : length s - n < length s - at
+      walk-less = omega (arith, onward .0, onward .1)
+
+      pub walk-on : Walked o s (ws ++ (entryOf s b f ∷ [])) n
+      unfolding entriesFrom
+      walk-on = go (w .fuel) (w .enough) (w .whole)
+        where
+          go : (k : ℕ) → length s ≤ at + k → entriesOf o s ≡ ws ++ entriesFrom o s k at → Walked o s (ws ++ (entryOf s b f ∷ [])) n
+          go zero q i = absurd (omega arith)
+          go (suc k) q i =
+              record {
+                fuel = k;
+                enough = omega (arith, onward .0);
+                inside = onward .1;
+                whole = i ∙ ap (λ (y : Name). ws ++ entriesAfter s y (λ m. entriesFrom o s k m)) (sym e ∙ h)
+                    ∙ sym (append-assoc ws (entryOf s b f ∷ []) (entriesFrom o s k n));
+              }
+
+      pub walk-in : In (entryOf s b f) (entriesOf o s)
+      walk-in = same (entriesOf o s) _ (walk-on .whole) (in-left (ws ++ (entryOf s b f ∷ [])) _ (in-last ws (entryOf s b f)))
+        where
+          same : (xs ys : List ℕ) → xs ≡ ys → In (entryOf s b f) ys → In (entryOf s b f) xs
+          same xs ys e i = rw e i

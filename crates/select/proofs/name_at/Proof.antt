@@ -1,0 +1,13 @@
+use borrow.Author.Needs.{needs}
+use Rattle.select.proofs.name_at.Statement.{statement}
+use Rattle.select.proofs.name_at.Tie as tie
+use Rattle.select.proofs.RangeReturns.{of-field}
+
+ruleset laws = (of-field, needs)
+
+pub name-at-spec : {M : Type 1} → statement M
+name-at-spec =
+    tie.close
+    (tie.spec
+    (λ c κs. search laws)
+    (λ c. search laws))

@@ -1,0 +1,232 @@
+// Where the first name begins that stands a second time, among names that stand in a part one after another: of as many names as there are, in a table of
+// any length. Each pass over the part takes the least names that are above those of the passes before, as many as the table holds, and arranges them.
+use format::Form;
+use names::Name;
+use order::Arranged;
+use order::Order;
+ghost use mathlib.Core.Path.{_≡_};
+ghost use Prim.Native.Nat.{_/_, _≤_, _<_};
+ghost use lib.ListN.{length, replicate};
+ghost use Rattle.order.specs.Arranged.{lesser};
+ghost use Rattle.select.specs.Source.{namedAt, entriesOf, firstTwin, searched};
+ghost use Rattle.select.specs.Range.{above, upTo, wanted};
+ghost use Rattle.select.specs.Passes.{Covered, Cuts, Adds, Finishes, Passes};
+
+// Where the names come from: the fields of an object.
+pub enum Source {
+    Fields(Form),
+}
+
+// The end of a range of names: there is none, or the name of an entry.
+pub enum Bound {
+    Open,
+    At(u64),
+}
+
+// A pass: up to which name it takes, how many entries stand in the table, and where the first twin begins so far.
+pub struct Pass {
+    pub high: Bound,
+    pub count: usize,
+    pub stop: usize,
+}
+
+// The name at a position.
+pub fn name_at(part: &[u8], at: usize, source: Source) -> Name
+    ensures { λ r. ⌜ r ≡ namedAt source at (now (part .entry)) ⌝ }
+{
+    match source {
+        Source::Fields(form) => names::name_at(part, at, form),
+    }
+}
+
+fn is_above(part: &[u8], low: Bound, x: u64) -> bool
+    ensures { λ r. ⌜ r ≡ above (now (part .entry)) low x ⌝ }
+{
+    match low {
+        Bound::Open => true,
+        Bound::At(y) => match order::compare(part, x, y) {
+            Order::Less => false,
+            Order::Same => false,
+            Order::More => true,
+        },
+    }
+}
+
+fn is_upto(part: &[u8], high: Bound, x: u64) -> bool
+    ensures { λ r. ⌜ r ≡ upTo (now (part .entry)) high x ⌝ }
+{
+    match high {
+        Bound::Open => true,
+        Bound::At(y) => match order::compare(part, x, y) {
+            Order::Less => true,
+            Order::Same => true,
+            Order::More => false,
+        },
+    }
+}
+
+// A name that is above one bound and up to the other, and begins before the first twin so far.
+fn is_wanted(part: &[u8], low: Bound, high: Bound, stop: usize, x: u64) -> bool
+    ensures { λ r. ⌜ r ≡ wanted (now (part .entry)) low high stop x ⌝ }
+{
+    if stop <= order::begin_of(x) {
+        return false;
+    }
+    if is_above(part, low, x) {
+        return is_upto(part, high, x);
+    }
+    false
+}
+
+fn lesser(a: usize, b: usize) -> usize
+    ensures { λ r. ⌜ r ≡ lesser a b ⌝ }
+{
+    if a < b {
+        return a;
+    }
+    b
+}
+
+// A full table is arranged. What begins at the first twin or behind it goes, and so does the upper half of the names, if more than half is left.
+fn cut(part: &[u8], table: &mut [u64], pass: Pass) -> Pass
+    requires { ⌜ (2 ≤ pass .count) × (pass .count ≤ length (now table) / 2) ⌝ }
+    ensures { λ r. ⌜ Cuts (now (part .entry)) (now (table .entry)) (now (table .exit)) pass r ⌝ }
+{
+    let half = pass.count / 2;
+    match order::arrange(part, table, pass.count) {
+        Arranged::NoRoom => pass,
+        Arranged::Done { count, least } => {
+            let stop = lesser(pass.stop, least);
+            if half < count {
+                return Pass {
+                    high: Bound::At(table[half - 1]),
+                    count: half,
+                    stop: stop,
+                };
+            }
+            Pass {
+                high: pass.high,
+                count: count,
+                stop: stop,
+            }
+        }
+    }
+}
+
+// One entry more, where there is room for it.
+fn put(part: &[u8], low: Bound, table: &mut [u64], pass: Pass, x: u64) -> Pass
+    requires { ⌜ pass .count < length (now table) / 2 ⌝ }
+    ensures { λ r. ⌜ Adds (now (part .entry)) (now (table .entry)) (now (table .exit)) low x pass r ⌝ }
+{
+    if is_wanted(part, low, pass.high, pass.stop, x) {
+        let n = pass.count;
+        table[n] = x;
+        return Pass {
+            high: pass.high,
+            count: n + 1,
+            stop: pass.stop,
+        };
+    }
+    pass
+}
+
+// One entry more: a table that is full is cut first.
+fn add(part: &[u8], low: Bound, table: &mut [u64], pass: Pass, x: u64) -> Pass
+    requires { ⌜ (4 ≤ length (now table)) × (pass .count ≤ length (now table) / 2) ⌝ }
+    ensures { λ r. ⌜ Adds (now (part .entry)) (now (table .entry)) (now (table .exit)) low x pass r ⌝ }
+{
+    if pass.count < table.len() / 2 {
+        return put(part, low, table, pass, x);
+    }
+    if is_wanted(part, low, pass.high, pass.stop, x) {
+        let less = cut(part, table, pass);
+        return put(part, low, table, less, x);
+    }
+    pass
+}
+
+// All names were met: what is in the table is arranged, and the first twin so far is told.
+fn finish(part: &[u8], table: &mut [u64], pass: Pass) -> Pass
+    requires { ⌜ pass .count ≤ length (now table) / 2 ⌝ }
+    ensures { λ r. ⌜ Finishes (now (part .entry)) (now (table .entry)) (now (table .exit)) pass r ⌝ }
+{
+    match order::arrange(part, table, pass.count) {
+        Arranged::NoRoom => pass,
+        Arranged::Done { count: _, least } => Pass {
+            high: pass.high,
+            count: 0,
+            stop: lesser(pass.stop, least),
+        },
+    }
+}
+
+// One pass: the least names above a bound, as many as the table holds.
+fn gather(part: &[u8], source: Source, low: Bound, table: &mut [u64], stop: usize) -> Pass
+    requires { ⌜ (4 ≤ length (now table)) × Covered (now part) (entriesOf source (now part)) low stop ⌝ }
+    ensures { λ r. ⌜ Passes (now (part .entry)) (entriesOf source (now (part .entry))) low (now (table .entry)) (now (table .exit)) r ⌝ }
+{
+    let mut at = 0;
+    let mut pass = Pass {
+        high: Bound::Open,
+        count: 0,
+        stop: stop,
+    };
+    while at < part.len() {
+        match name_at(part, at, source) {
+            Name::Nothing => {
+                return finish(part, table, pass);
+            }
+            Name::At { begin, end, next } => {
+                pass = add(part, low, table, pass, order::entry(part, begin, end));
+                at = next;
+            }
+        }
+    }
+    finish(part, table, pass)
+}
+
+// Pass after pass, until one takes all names that are left.
+fn search(part: &[u8], source: Source, table: &mut [u64]) -> usize
+    requires { ⌜ 4 ≤ length (now table) ⌝ }
+    ensures { λ r. ⌜ (r ≡ firstTwin source (now (part .entry))) × (length (now (table .exit)) ≡ length (now (table .entry))) ⌝ }
+{
+    let mut low = Bound::Open;
+    let mut stop: usize = 16777216;
+    loop {
+        let pass = gather(part, source, low, table, stop);
+        match pass.high {
+            Bound::Open => {
+                return pass.stop;
+            }
+            Bound::At(y) => {
+                low = Bound::At(y);
+                stop = pass.stop;
+            }
+        }
+    }
+}
+
+fn clear(table: &mut [u64])
+    ensures { λ r. ⌜ now (table .exit) ≡ replicate (length (now (table .entry))) 0 ⌝ }
+{
+    let mut i = 0;
+    while i < table.len() {
+        table[i] = 0;
+        i += 1;
+    }
+}
+
+// Where the first name begins that stands a second time; 16777216 if every name stands once. The table holds zeros afterwards, whatever it held before. A
+// longer one saves passes: with two numbers for each name there is one.
+pub fn first_twin(part: &[u8], source: Source, table: &mut [u64]) -> usize
+    ensures { λ r. ⌜ record { answer = r; table = now (table .exit) } ≡ searched source (now (part .entry)) (now (table .entry)) ⌝ }
+{
+    if table.len() < 4 {
+        let mut own = [0u64; 64];
+        clear(table);
+        return search(part, source, &mut own);
+    }
+    let answer = search(part, source, table);
+    clear(table);
+    answer
+}
