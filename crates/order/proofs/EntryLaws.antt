@@ -1,12 +1,12 @@
 -- The entry of a name tells where it begins and which bytes it has, and two entries have one name where their bytes are equal.
-use Prim.Native.Nat.{ℕ, zero, suc, _+_, _-_, _*_, _/_, _%_, _≤_, _<_}
+use Prim.Native.Nat.{ℕ, _+_, _-_, _*_, _%_, _≤_, _<_}
 use native.Mathlib.Omega.{arith}
 use mathlib.Core.Path.{_≡_, refl, sym, ap, _∙_}
 use mathlib.Core.Bool.{Bool, true, false, cond, _&&_}
 use mathlib.Core.List.{List, [], _∷_}
 use lib.ListN.{length, take, drop, getD, length-drop}
 use lib.Seq.{length-take-le, getD-take, getD-drop}
-use lib.Dec.{ltb, leb, eqb}
+use lib.Dec.{ltb, eqb}
 use borrow.Author.Tests.{lt-ltb, le-ltb, le-leb, lt-leb, eq-eqb, ne-eqb, eqb-true, eqb-false}
 use Rattle.text.specs.Equal.{equal}
 use Rattle.text.proofs.Laws.{and-false, equal-is}
@@ -67,15 +67,18 @@ module _ (s : List ℕ) (b e : ℕ) (l : b ≤ e) (k : e ≤ length s) where
       go false q =
           let d : b < e = lt-of l (eqb-false b e q) in
           let n : e - b ≡ 0 → ⊥ = λ z. omega arith in
-          let x : getD (take (e - b) (drop b s)) 0 0 ≡ getD s b 0 = getD-take (e - b) (drop b s) 0 0 (omega arith) ∙ (getD-drop b s 0 0 ∙ ap (λ (a : ℕ). getD s a 0) (plus-none b)) in
+          let x : getD (take (e - b) (drop b s)) 0 0 ≡ getD s b 0 =
+          getD-take (e - b) (drop b s) 0 0 (omega arith) ∙ (getD-drop b s 0 0 ∙ ap (λ (a : ℕ). getD s a 0) (plus-none b)) in
           let y : getD (take (e - b) (drop b s)) (e - b - 1) 0 ≡ getD s (e - 1) 0 =
-              getD-take (e - b) (drop b s) (e - b - 1) 0 (omega arith) ∙ (getD-drop b s (e - b - 1) 0 ∙ ap (λ (a : ℕ). getD s a 0) (last-at d)) in
+          getD-take (e - b) (drop b s) (e - b - 1) 0 (omega arith) ∙ (getD-drop b s (e - b - 1) 0 ∙ ap (λ (a : ℕ). getD s a 0) (last-at d)) in
           ends-some d ∙ rw (named-length, ne-eqb (e - b) 0 n, x, y)
         where
           lt-of : b ≤ e → (b ≡ e → ⊥) → b < e
           lt-of l f = omega arith
+
           plus-none : (a : ℕ) → a + 0 ≡ a
           plus-none a = omega arith
+
           last-at : b < e → b + (e - b - 1) ≡ e - 1
           last-at d = omega arith
 

@@ -1,5 +1,5 @@
 -- The entries that begin before a place; and those that are kept, of which no two have one name.
-use Prim.Native.Nat.{ℕ, suc, _+_, _%_, _≤_, _<_}
+use Prim.Native.Nat.{ℕ, _≤_, _<_}
 use native.Mathlib.Omega.{arith}
 use mathlib.Core.Path.{_≡_, refl, sym, ap, _∙_}
 use mathlib.Core.Bool.{Bool, true, false, cond}
@@ -7,14 +7,12 @@ use mathlib.Core.List.{List, [], _∷_, _++_}
 use lib.ListN.{length}
 use lib.Dec.{ltb}
 use borrow.Author.Tests.{ltb-true, ltb-false, lt-ltb, le-ltb}
-use Rattle.number.proofs.Clash.{clash}
 use Rattle.order.specs.Entry.{beginIn, nameIn}
-use Rattle.order.specs.Order.{upto}
-use Rattle.order.specs.Arranged.{sameName, isFirst, least, before, kept, ordered}
+use Rattle.order.specs.Arranged.{sameName, least, before, kept, ordered}
 use Rattle.order.specs.Sorted.{Below, Sorted, Perm, done, keep, swap, then, In, here, there}
-use Rattle.order.proofs.Perms.{perm-same, perm-length, perm-back}
+use Rattle.order.proofs.Perms.{perm-same, perm-length}
 use Rattle.order.proofs.SortedLaws.{ordered-sorted, ordered-perm, ordered-only}
-use Rattle.order.proofs.LeastLaws.{begin-below, named-same, is-first, least-pair, least-alike}
+use Rattle.order.proofs.LeastLaws.{begin-below, named-same, is-first, least-pair}
 
 module _ (p e : ℕ) (es : List ℕ) where
   pub before-in : beginIn e < p → before p (e ∷ es) ≡ e ∷ before p es
@@ -61,9 +59,19 @@ pub in-before : (p e : ℕ) (t : List ℕ) → In e (before p t) → In e t × (
 unfolding before
 in-before p e (x ∷ t) i = go (ltb (beginIn x) p) refl i (in-before p e t)
   where
-    go : (o : Bool) → ltb (beginIn x) p ≡ o → In e (cond o (x ∷ before p t) (before p t)) → (In e (before p t) → In e t × (beginIn e < p)) → In e (x ∷ t) × (beginIn e < p)
+    go : (o : Bool) → ltb (beginIn x) p ≡ o → In e (cond o (x ∷ before p t) (before p t)) → (In e (before p t) → In e t × (beginIn e < p))
+        → In e (x ∷ t) × (beginIn e < p)
     go true h i f = in-cons e x (before p t) i (λ q. (rw q here, rw q (ltb-true (beginIn x) p h))) (λ j. let w = f j in (there (w .0), w .1))
     go false h i f = let w = f i in (there (w .0), w .1)
+
+pub before-has : (p e : ℕ) (t : List ℕ) → In e t → beginIn e < p → In e (before p t)
+unfolding before
+before-has p e (x ∷ t) here l = rw (lt-ltb (beginIn e) p l) here
+before-has p e (x ∷ t) (there i) l = go (ltb (beginIn x) p) (before-has p e t i l)
+  where
+    go : (o : Bool) → In e (before p t) → In e (cond o (x ∷ before p t) (before p t))
+    go true j = there j
+    go false j = j
 
 below-before : (s : List ℕ) (p x : ℕ) (t : List ℕ) → Below s x t → Below s x (before p t)
 unfolding before
@@ -85,7 +93,8 @@ sorted-before s p (x ∷ t) w = go (ltb (beginIn x) p) (sorted-before s p t (w .
 
 -- taken out of what is in order they are in order
 pub before-ordered : (s : List ℕ) (p : ℕ) (t : List ℕ) → before p (ordered s t) ≡ ordered s (before p t)
-before-ordered s p t = ordered-only s (before p t) (before p (ordered s t)) (sorted-before s p (ordered s t) (ordered-sorted s t)) (before-perm p (ordered-perm s t))
+before-ordered s p t =
+    ordered-only s (before p t) (before p (ordered s t)) (sorted-before s p (ordered s t) (ordered-sorted s t)) (before-perm p (ordered-perm s t))
 
 -- and as many
 pub before-length : (s : List ℕ) (p : ℕ) (t : List ℕ) → length (before p (ordered s t)) ≡ length (before p t)
@@ -99,6 +108,9 @@ kept-in s e t i = in-before (least s t) e t i .0
 pub kept-before : (s : List ℕ) (e : ℕ) (t : List ℕ) → In e (kept s t) → beginIn e < least s t
 kept-before s e t i = in-before (least s t) e t i .1
 
+pub kept-has : (s : List ℕ) (e : ℕ) (t : List ℕ) → In e t → beginIn e < least s t → In e (kept s t)
+kept-has s e t i l = before-has (least s t) e t i l
+
 -- entries of one name begin at one place
 pub kept-once : (s t : List ℕ) (x y : ℕ) → In x (kept s t) → In y (kept s t) → sameName s x y ≡ true → beginIn x ≡ beginIn y
 kept-once s t x y i j h =
@@ -110,7 +122,11 @@ kept-once s t x y i j h =
     no-twin x y i j e = go (ltb (beginIn x) (beginIn y)) refl
       where
         go : (o : Bool) → ltb (beginIn x) (beginIn y) ≡ o → beginIn y ≤ beginIn x
-        go true q = absurd (omega (arith, kept-before s y t j, least-pair s t y x (kept-in s y t j) (kept-in s x t i) (is-first s x y (ltb-true (beginIn x) (beginIn y) q) e)))
+        go true q = absurd (omega (
+          arith,
+          kept-before s y t j,
+          least-pair s t y x (kept-in s y t j) (kept-in s x t i) (is-first s x y (ltb-true (beginIn x) (beginIn y) q) e),
+        ))
         go false q = ltb-false (beginIn x) (beginIn y) q
 
 -- if no entry is a twin, all are kept

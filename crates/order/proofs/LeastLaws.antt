@@ -1,19 +1,19 @@
 -- Where the first twin begins: it depends on the entries and not on their order, and of sorted ones it is told by neighbours.
-use Prim.Native.Nat.{ℕ, suc, _+_, _*_, _/_, _%_, _≤_, _<_}
+use Prim.Native.Nat.{ℕ, _≤_, _<_}
 use native.Mathlib.Omega.{arith}
 use mathlib.Core.Path.{_≡_, refl, sym, ap, _∙_}
-use mathlib.Core.Bool.{Bool, true, false, cond, _&&_, _||_}
-use mathlib.Core.List.{List, [], _∷_, _++_}
+use mathlib.Core.Bool.{Bool, true, false, cond, _||_}
+use mathlib.Core.List.{List, [], _∷_}
 use lib.Dec.{ltb}
-use borrow.Author.Tests.{ltb-true, ltb-false, lt-ltb, le-ltb}
+use borrow.Author.Tests.{ltb-true, ltb-false, lt-ltb}
 use Rattle.number.proofs.Clash.{clash}
 use Rattle.text.specs.Equal.{equal}
 use Rattle.text.proofs.Laws.{and-both, equal-refl, equal-is}
-use Rattle.order.specs.Entry.{beginIn, nameIn, keyIn, bytesAt}
+use Rattle.order.specs.Entry.{beginIn, nameIn, keyIn}
 use Rattle.order.specs.Arranged.{sameName, isFirst, isTwin, lesser, leastOf, least}
-use Rattle.order.specs.Sorted.{Below, Sorted, Perm, In, here, there}
-use Rattle.order.specs.Order.{order, upto}
-use Rattle.order.proofs.OrderLaws.{Upto, less, same, upto-is, order-not, between}
+use Rattle.order.specs.Sorted.{Perm, In, here, there}
+use Rattle.order.specs.Order.{order}
+use Rattle.order.proofs.OrderLaws.{Upto, less, same, order-not}
 use Rattle.order.proofs.Perms.{perm-in, perm-back}
 
 pub begin-below : (x : ℕ) → beginIn x < 16777216
@@ -150,3 +150,20 @@ least-none s t e q i = go (isTwin s t e) refl
     go : (o : Bool) → isTwin s t e ≡ o → o ≡ false
     go true h = absurd (omega (arith, least-twin s t e i h, begin-below e))
     go false h = refl
+
+-- where it is less, an entry that is a twin begins there
+leasts-found : {X : Type 0} (s t es : List ℕ) → leastOf s t es < 16777216
+    → ((e : ℕ) → In e es → isTwin s t e ≡ true → beginIn e ≡ leastOf s t es → X) → X
+unfolding leastOf
+leasts-found s t [] l f = absurd (omega arith)
+leasts-found {X} s t (d ∷ es) l f = go (isTwin s t d) refl (ltb (beginIn d) (leastOf s t es)) l f (leasts-found s t es)
+  where
+    go : (o : Bool) → isTwin s t d ≡ o → (p : Bool) → cond o (cond p (beginIn d) (leastOf s t es)) (leastOf s t es) < 16777216
+        → ((e : ℕ) → In e (d ∷ es) → isTwin s t e ≡ true → beginIn e ≡ cond o (cond p (beginIn d) (leastOf s t es)) (leastOf s t es) → X)
+        → (leastOf s t es < 16777216 → ((e : ℕ) → In e es → isTwin s t e ≡ true → beginIn e ≡ leastOf s t es → X) → X) → X
+    go true h true l f g = f d here h refl
+    go true h false l f g = g l (λ e i k q. f e (there i) k q)
+    go false h p l f g = g l (λ e i k q. f e (there i) k q)
+
+pub least-found : {X : Type 0} (s t : List ℕ) → least s t < 16777216 → ((e : ℕ) → In e t → isTwin s t e ≡ true → beginIn e ≡ least s t → X) → X
+least-found s t l f = leasts-found s t t l f

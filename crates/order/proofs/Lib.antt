@@ -5,4 +5,13 @@ pub mod SortedLaws
 pub mod LeastLaws
 pub mod NeighbourLaws
 pub mod KeptLaws
+mod CompareReturns
+mod CopyReturns
+mod MergeReturns
+mod JoinReturns
+mod SortReturns
+mod TwinReturns
+mod KeepReturns
+pub mod ArrangeReturns
 pub mod PinnedOrder
+pub mod OneAnswer

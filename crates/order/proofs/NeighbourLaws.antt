@@ -1,8 +1,8 @@
 -- One more entry behind sorted ones: if it is a twin, then the last of them has its name.
-use Prim.Native.Nat.{ℕ, suc, _+_, _%_, _≤_, _<_}
+use Prim.Native.Nat.{ℕ, _≤_}
 use native.Mathlib.Omega.{arith}
 use mathlib.Core.Path.{_≡_, refl, sym, ap, _∙_}
-use mathlib.Core.Bool.{Bool, true, false, cond}
+use mathlib.Core.Bool.{Bool, true, false}
 use mathlib.Core.List.{List, [], _∷_, _++_}
 use lib.Dec.{ltb}
 use borrow.Author.Tests.{ltb-true, ltb-false}
@@ -11,8 +11,9 @@ use Rattle.order.specs.Entry.{beginIn, nameIn}
 use Rattle.order.specs.Order.{upto}
 use Rattle.order.specs.Arranged.{isFirst, lesser, least}
 use Rattle.order.specs.Sorted.{Below, Sorted, In, here, there}
-use Rattle.order.proofs.OrderLaws.{Upto, upto-is, upto-refl, between}
-use Rattle.order.proofs.LeastLaws.{first-is, is-first, upto-begins, one-begin, lesser-left, lesser-right, lesser-both, least-bound, least-over, least-pair, least-more}
+use Rattle.order.proofs.OrderLaws.{Upto, upto-is, between}
+use Rattle.order.proofs.LeastLaws.{first-is, is-first, upto-begins, one-begin, lesser-left, lesser-right, lesser-both}
+use Rattle.order.proofs.LeastLaws.{least-bound, least-over, least-pair, least-more}
 
 -- ---- an entry among those of two lists
 
@@ -55,11 +56,11 @@ module _ (s f : List ℕ) (x y : ℕ) (i : In x f) (bx : (z : ℕ) → In z f �
       let w = first-is s z e h in
       in-cases e f y j
       (λ p. in-cases z f y m
-          (λ q. omega (arith, least-pair s f e z p q h))
-          (λ q. absurd (omega (arith, upto-begins s e y (by e p) (sym (w .1) ∙ ap (nameIn s) q), w .0, ap beginIn q))))
+      (λ q. omega (arith, least-pair s f e z p q h))
+      (λ q. absurd (omega (arith, upto-begins s e y (by e p) (sym (w .1) ∙ ap (nameIn s) q), w .0, ap beginIn q))))
       (λ p. in-cases z f y m
-          (λ q. omega (arith, second z q (ap (λ (a : ℕ). isFirst s z a) (sym p) ∙ h), ap beginIn p))
-          (λ q. absurd (omega (arith, w .0, ap beginIn q, ap beginIn p))))
+      (λ q. omega (arith, second z q (ap (λ (a : ℕ). isFirst s z a) (sym p) ∙ h), ap beginIn p))
+      (λ q. absurd (omega (arith, w .0, ap beginIn q, ap beginIn p))))
     where
       second : (z : ℕ) → In z f → isFirst s z y ≡ true → k ≤ beginIn y
       second z q h =
@@ -80,9 +81,9 @@ module _ (s f : List ℕ) (x y : ℕ) (i : In x f) (bx : (z : ℕ) → In z f �
   pub next-first : isFirst s x y ≡ true → least s (f ++ (y ∷ [])) ≡ lesser (beginIn y) (least s f)
   next-first h =
       let a : lesser (beginIn y) (least s f) ≤ least s (f ++ (y ∷ [])) =
-          over (lesser (beginIn y) (least s f)) (lesser-right (beginIn y) (least s f)) (λ _. lesser-left (beginIn y) (least s f)) in
+      over (lesser (beginIn y) (least s f)) (lesser-right (beginIn y) (least s f)) (λ _. lesser-left (beginIn y) (least s f)) in
       let b : least s (f ++ (y ∷ [])) ≤ lesser (beginIn y) (least s f) =
-          lesser-both (least s (f ++ (y ∷ []))) (beginIn y) (least s f) (least-pair s (f ++ (y ∷ [])) y x (in-last f y) (in-left f (y ∷ []) i) h) under in
+      lesser-both (least s (f ++ (y ∷ []))) (beginIn y) (least s f) (least-pair s (f ++ (y ∷ [])) y x (in-last f y) (in-left f (y ∷ []) i) h) under in
       omega arith
 
   pub next-not : isFirst s x y ≡ false → least s (f ++ (y ∷ [])) ≡ least s f

@@ -1,5 +1,5 @@
 -- The order of names is a strict order, and that of entries is total.
-use Prim.Native.Nat.{ℕ, _+_, _*_, _/_, _%_, _≤_, _<_}
+use Prim.Native.Nat.{ℕ, _≤_, _<_}
 use native.Mathlib.Omega.{arith}
 use mathlib.Core.Path.{_≡_, refl, sym, ap, _∙_}
 use mathlib.Core.Bool.{Bool, true, false, cond}
@@ -9,8 +9,8 @@ use borrow.Author.Tests.{ltb-true, ltb-false, lt-ltb, le-ltb}
 use Rattle.number.proofs.Clash.{clash}
 use Rattle.order.specs.declared.Order.{Order}
 use Rattle.order.specs.declared.Order.the-variants as O
-use Rattle.order.specs.Entry.{beginIn, bytesAt, nameIn}
-use Rattle.order.specs.Order.{order, orderOf, orElse, orderIn, isUpto, upto}
+use Rattle.order.specs.Entry.{nameIn}
+use Rattle.order.specs.Order.{order, orderOf, orElse, isUpto, upto}
 
 -- ---- two names that begin with these numbers
 

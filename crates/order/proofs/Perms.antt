@@ -1,6 +1,6 @@
 -- The same entries in another order.
 use Prim.Native.Nat.{ℕ, suc}
-use mathlib.Core.Path.{_≡_, refl, sym, ap, _∙_}
+use mathlib.Core.Path.{_≡_, refl, ap, _∙_}
 use mathlib.Core.List.{List, [], _∷_, _++_}
 use lib.ListN.{length}
 use Rattle.order.specs.Sorted.{Perm, done, keep, swap, then, In, here, there}

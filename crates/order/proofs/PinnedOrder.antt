@@ -1,13 +1,12 @@
 -- What the definitions come to on small parts, computed.
 use Prim.Native.Nat.{ℕ, _+_, _*_}
 use mathlib.Core.Path.{_≡_, refl}
-use mathlib.Core.Bool.{Bool, true, false}
+use mathlib.Core.Bool.{true, false}
 use mathlib.Core.List.{List, [], _∷_}
 use Rattle.text.specs.Equal.{equal}
-use Rattle.order.specs.Entry.{bytesAt, endsOf, entryOf, bytesIn, beginIn, lengthIn}
+use Rattle.order.specs.Entry.{bytesAt, endsOf, entryOf, bytesIn}
 use Rattle.order.specs.Order.{order, orderIn, upto}
 use Rattle.order.specs.Arranged.{isFirst, isTwin, leastOf, least, before, kept, inserted, ordered, settled, arranged, afterwards}
-use Rattle.order.specs.declared.Order.{Order}
 use Rattle.order.specs.declared.Order.the-variants as O
 use Rattle.order.specs.declared.Arranged.the-variants.{NoRoom, Done}
 

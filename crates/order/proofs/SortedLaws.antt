@@ -1,6 +1,5 @@
 -- What is put in order by insertion is sorted, has the same entries, and is the only such list.
-use Prim.Native.Nat.{ℕ, suc}
-use native.Mathlib.Omega.{arith}
+use Prim.Native.Nat.{ℕ}
 use mathlib.Core.Path.{_≡_, refl, sym, ap, _∙_}
 use mathlib.Core.Bool.{Bool, true, false, cond}
 use mathlib.Core.List.{List, [], _∷_, _++_}
@@ -9,8 +8,8 @@ use Rattle.number.proofs.Clash.{clash}
 use Rattle.order.specs.Order.{upto}
 use Rattle.order.specs.Arranged.{inserted, ordered}
 use Rattle.order.specs.Sorted.{Below, Sorted, Perm, done, keep, swap, then, In, here, there}
-use Rattle.order.proofs.OrderLaws.{Upto, upto-is, is-upto, upto-not, upto-refl, upto-trans, upto-one}
-use Rattle.order.proofs.Perms.{perm-same, perm-back, perm-middle, perm-both, perm-length, perm-in}
+use Rattle.order.proofs.OrderLaws.{upto-is, is-upto, upto-not, upto-trans, upto-one}
+use Rattle.order.proofs.Perms.{perm-same, perm-middle, perm-both, perm-length, perm-in}
 
 -- ---- an entry and all of a list
 
@@ -94,9 +93,21 @@ insert-swap s x y (z ∷ t) = go (upto s x z) refl (upto s y z) refl (insert-swa
         → inserted s x (inserted s y (z ∷ t)) ≡ inserted s y (inserted s x (z ∷ t))
     go true h true k i = rw (insert-here s x z t h, insert-here s y z t k) (insert-both s x y (z ∷ t) (insert-here s x z t h) (insert-here s y z t k))
     go true h false k i =
-        rw (insert-here s x z t h, insert-later s y z t k, insert-here s x z (inserted s y t) h, insert-later s y x (z ∷ t) (above s x z y h k), insert-later s y z t k)
+        rw (
+          insert-here s x z t h,
+          insert-later s y z t k,
+          insert-here s x z (inserted s y t) h,
+          insert-later s y x (z ∷ t) (above s x z y h k),
+          insert-later s y z t k,
+        )
     go false h true k i =
-        rw (insert-later s x z t h, insert-here s y z t k, insert-later s x y (z ∷ t) (above s y z x k h), insert-later s x z t h, insert-here s y z (inserted s x t) k)
+        rw (
+          insert-later s x z t h,
+          insert-here s y z t k,
+          insert-later s x y (z ∷ t) (above s y z x k h),
+          insert-later s x z t h,
+          insert-here s y z (inserted s x t) k,
+        )
     go false h false k i =
         rw (insert-later s x z t h, insert-later s y z t k, insert-later s x z (inserted s y t) h, insert-later s y z (inserted s x t) k, i)
 

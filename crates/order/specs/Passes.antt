@@ -32,11 +32,32 @@ pub record Seconds (s t : List ℕ) (x at n : ℕ) (r : Bool) : Type 0 where
   pub after : r ≡ true → upto s x (getD t at 0) ≡ false
   pub first : r ≡ false → at < n → upto s x (getD t at 0) ≡ true
 
--- xs stand in the room, ys behind the first m numbers: they are put in order, and what stands behind them up to the room is as it was
+-- xs stand in the room, and ys behind the first m numbers, up to the n-th; c is what stands behind them up to the room
+pub record Runs (s : List ℕ) (m n room : ℕ) (t xs ys c : List ℕ) : Type 0 where
+  pub first : length xs ≡ m
+  pub both : length xs + length ys ≡ n
+  pub first-sorted : Sorted s xs
+  pub second-sorted : Sorted s ys
+  pub in-room : take m (drop room t) ≡ xs
+  pub behind : drop m (take room t) ≡ ys ++ c
+
+-- both runs are put in order
 pub record Merges (s : List ℕ) (m n room : ℕ) (t t′ : List ℕ) : Type 0 where
   pub length-kept : length t′ ≡ length t
-  pub is : (xs ys c : List ℕ) → length xs ≡ m → length xs + length ys ≡ n → Sorted s xs → Sorted s ys
-    → take m (drop room t) ≡ xs → drop m (take room t) ≡ ys ++ c → take room t′ ≡ ordered s (xs ++ ys) ++ c
+  pub is : (xs ys c : List ℕ) → Runs s m n room t xs ys c → take room t′ ≡ ordered s (xs ++ ys) ++ c
+
+-- xs and ys stand one behind the other, sorted, and c behind them up to the room
+pub record Stand (s : List ℕ) (m n room : ℕ) (t xs ys c : List ℕ) : Type 0 where
+  pub first : length xs ≡ m
+  pub both : length xs + length ys ≡ n
+  pub first-sorted : Sorted s xs
+  pub second-sorted : Sorted s ys
+  pub is : take room t ≡ xs ++ (ys ++ c)
+
+-- both are put in order
+pub record Joins (s : List ℕ) (m n room : ℕ) (t t′ : List ℕ) : Type 0 where
+  pub length-kept : length t′ ≡ length t
+  pub is : (xs ys c : List ℕ) → Stand s m n room t xs ys c → take room t′ ≡ ordered s (xs ++ ys) ++ c
 
 -- the first n numbers are put in order, and what stands behind them up to the room is as it was
 pub record Sorts (s : List ℕ) (n room : ℕ) (t t′ : List ℕ) : Type 0 where
@@ -51,7 +72,7 @@ pub record Tells (s t : List ℕ) (n l : ℕ) : Type 0 where
 abbrev pub leastNext : List ℕ → ℕ → ℕ → ℕ → ℕ
 leastNext s x y l = cond (isFirst s x y) (lesser (beginIn y) l) l
 
-abbrev pub countBefore : ℕ → ℕ → ℕ
+unfoldable pub countBefore : ℕ → ℕ → ℕ
 countBefore l x = cond (ltb (beginIn x) l) 1 0
 
 -- of the first n numbers those that begin before l stand in front, k of them

@@ -1,4 +1,12 @@
 // Names of a part in a table: each is one number, and the table is put in their order.
+ghost use mathlib.Core.Path.{_≡_};
+ghost use mathlib.Core.List.{_++_};
+ghost use Prim.Native.Nat.{_+_, _-_, _*_, _/_, _%_, _≤_, _<_};
+ghost use lib.ListN.{length, take, drop, replicate};
+ghost use Rattle.order.specs.Entry.{beginIn, lengthIn, keyIn, bytesAt, nameIn, entryOf};
+ghost use Rattle.order.specs.Order.{order, upto};
+ghost use Rattle.order.specs.Arranged.{isFirst, arranged, afterwards, settled, least, kept};
+ghost use Rattle.order.specs.Passes.{Holds, Halves, Copies, Merges, Joins, Sorts, Tells, Keeps, Seconds, leastNext, countBefore};
 
 pub enum Order {
     Less,
@@ -9,8 +17,273 @@ pub enum Order {
 // How many entries are kept, and where the first begins that is not, since an entry before it has its name.
 pub enum Arranged {
     NoRoom,
-    Done {
-        count: usize,
-        least: usize,
-    },
+    Done { count: usize, least: usize },
+}
+
+fn wide(b: u8) -> u64
+    ensures { λ r. ⌜ (r ≡ b) × (r < 256) ⌝ }
+{
+    b as u64
+}
+
+// The entry of the name that stands from one place to another.
+pub fn entry(part: &[u8], begin: usize, end: usize) -> u64
+    ensures { λ r. ⌜ r ≡ entryOf (now (part .entry)) begin end ⌝ }
+{
+    if end < begin {
+        return 0;
+    }
+    if part.len() < end {
+        return 0;
+    }
+    if 16777216 <= part.len() {
+        return 0;
+    }
+    if begin == end {
+        return begin as u64;
+    }
+    let ends = wide(part[begin]) * 256 + wide(part[end - 1]);
+    (ends * 16777216 + (end - begin) as u64) * 16777216 + begin as u64
+}
+
+pub fn begin_of(x: u64) -> usize
+    ensures { λ r. ⌜ r ≡ beginIn x ⌝ }
+{
+    (x % 16777216) as usize
+}
+
+// The order of n bytes at one place and n at another, which all stand in the part.
+fn compare_bytes(part: &[u8], a: usize, b: usize, n: usize) -> Order
+    requires { ⌜ (a + n ≤ length (now part)) × (b + n ≤ length (now part)) ⌝ }
+    ensures { λ r. ⌜ r ≡ order (bytesAt (now (part .entry)) a n) (bytesAt (now (part .entry)) b n) ⌝ }
+{
+    let mut i = 0;
+    while i < n {
+        if part[a + i] != part[b + i] {
+            if part[a + i] < part[b + i] {
+                return Order::Less;
+            }
+            return Order::More;
+        }
+        i += 1;
+    }
+    Order::Same
+}
+
+// The same where they need not.
+fn compare_parts(part: &[u8], a: usize, b: usize, n: usize) -> Order
+    requires { ⌜ (a < 16777216) × (b < 16777216) × (n < 16777216) ⌝ }
+    ensures { λ r. ⌜ r ≡ order (bytesAt (now (part .entry)) a n) (bytesAt (now (part .entry)) b n) ⌝ }
+{
+    if n == 0 {
+        return Order::Same;
+    }
+    if part.len() < a + n {
+        if part.len() < b + n {
+            return Order::Same;
+        }
+        return Order::Less;
+    }
+    if part.len() < b + n {
+        return Order::More;
+    }
+    compare_bytes(part, a, b, n)
+}
+
+// The order of the names of two entries. Most are told apart by their keys, and no byte of the part is looked at.
+pub fn compare(part: &[u8], x: u64, y: u64) -> Order
+    ensures { λ r. ⌜ r ≡ order (nameIn (now (part .entry)) x) (nameIn (now (part .entry)) y) ⌝ }
+{
+    if x / 16777216 < y / 16777216 {
+        return Order::Less;
+    }
+    if y / 16777216 < x / 16777216 {
+        return Order::More;
+    }
+    let n = (x / 16777216 % 16777216) as usize;
+    compare_parts(part, begin_of(x), begin_of(y), n)
+}
+
+// The first is not to stand behind the second.
+fn is_upto(part: &[u8], x: u64, y: u64) -> bool
+    ensures { λ r. ⌜ r ≡ upto (now (part .entry)) x y ⌝ }
+{
+    match compare(part, x, y) {
+        Order::Less => true,
+        Order::Same => x <= y,
+        Order::More => false,
+    }
+}
+
+// The first numbers of a table are copied to the room in it.
+fn copy(table: &mut [u64], m: usize, room: usize)
+    requires { ⌜ Holds (now table) m room ⌝ }
+    ensures { λ _. ⌜ Copies m room (now (table .entry)) (now (table .exit)) ⌝ }
+{
+    let mut i = 0;
+    while i < m {
+        table[room + i] = table[i];
+        i += 1;
+    }
+}
+
+// The entry of the second half is next: there is one, and it stands before that of the first.
+fn is_second<'a>(part: &'a [u8], table: &'a [u64], x: u64, at: usize, n: usize) -> bool
+    requires { ⌜ n ≤ length (now table) ⌝ }
+    ensures { λ r. ⌜ Seconds (now (part .entry)) (now (table .entry)) x at n r ⌝ }
+{
+    if n <= at {
+        return false;
+    }
+    !is_upto(part, x, table[at])
+}
+
+// Two sorted runs become one, from the front: m entries that stand in the room, and those from m to n.
+fn merge(part: &[u8], table: &mut [u64], m: usize, n: usize, room: usize)
+    requires { ⌜ Halves (now table) m n room ⌝ }
+    ensures { λ _. ⌜ Merges (now (part .entry)) m n room (now (table .entry)) (now (table .exit)) ⌝ }
+{
+    let mut i = 0;
+    let mut j = 0;
+    while i < m {
+        let x = table[room + i];
+        if is_second(part, table, x, m + j, n) {
+            table[i + j] = table[m + j];
+            j += 1;
+        } else {
+            table[i + j] = x;
+            i += 1;
+        }
+    }
+}
+
+// Two sorted runs that stand one behind the other, up to m and up to n, become one. Often they are in order already.
+fn join(part: &[u8], table: &mut [u64], m: usize, n: usize, room: usize)
+    requires { ⌜ (0 < m) × (m < n) × Holds (now table) n room ⌝ }
+    ensures { λ _. ⌜ Joins (now (part .entry)) m n room (now (table .entry)) (now (table .exit)) ⌝ }
+{
+    if is_upto(part, table[m - 1], table[m]) {
+        return;
+    }
+    copy(table, m, room);
+    merge(part, table, m, n, room);
+}
+
+// The first n entries are put in order, by halves.
+fn sort(part: &[u8], table: &mut [u64], n: usize, room: usize)
+    requires { ⌜ Holds (now table) n room ⌝ }
+    ensures { λ _. ⌜ Sorts (now (part .entry)) n room (now (table .entry)) (now (table .exit)) ⌝ }
+{
+    if n < 2 {
+        return;
+    }
+    let m = n / 2;
+    sort(part, table, m, room);
+    sort(part, &mut table[m..], n - m, room - m);
+    join(part, table, m, n, room);
+}
+
+// The first begins before the second, and has its name.
+fn is_first(part: &[u8], x: u64, y: u64) -> bool
+    ensures { λ r. ⌜ r ≡ isFirst (now (part .entry)) x y ⌝ }
+{
+    if begin_of(y) <= begin_of(x) {
+        return false;
+    }
+    match compare(part, x, y) {
+        Order::Less => false,
+        Order::Same => true,
+        Order::More => false,
+    }
+}
+
+// The least beginning, if the second of two neighbours is a twin of the first.
+fn next_least(part: &[u8], x: u64, y: u64, least: usize) -> usize
+    ensures { λ r. ⌜ r ≡ leastNext (now (part .entry)) x y least ⌝ }
+{
+    if is_first(part, x, y) {
+        let begin = begin_of(y);
+        if begin < least {
+            return begin;
+        }
+    }
+    least
+}
+
+// Where the first of the sorted entries begins that has the name of one before it: entries of one name are neighbours.
+fn first_twin<'a>(part: &'a [u8], table: &'a [u64], n: usize) -> usize
+    requires { ⌜ n ≤ length (now table) ⌝ }
+    ensures { λ r. ⌜ Tells (now (part .entry)) (now (table .entry)) n r ⌝ }
+{
+    let mut least = 16777216;
+    let mut i = 1;
+    while i < n {
+        least = next_least(part, table[i - 1], table[i], least);
+        i += 1;
+    }
+    least
+}
+
+// 1 for an entry that begins before a place.
+fn counted(x: u64, least: usize) -> usize
+    ensures { λ r. ⌜ r ≡ countBefore least x ⌝ }
+{
+    if begin_of(x) < least {
+        return 1;
+    }
+    0
+}
+
+// The entries that begin before a place, moved to the front. Each is put where the next kept one goes: no branch goes by an entry.
+fn keep(table: &mut [u64], n: usize, least: usize) -> usize
+    requires { ⌜ n ≤ length (now table) ⌝ }
+    ensures { λ r. ⌜ Keeps least n r (now (table .entry)) (now (table .exit)) ⌝ }
+{
+    let mut k = 0;
+    let mut i = 0;
+    while i < n {
+        let x = table[i];
+        table[k] = x;
+        k += counted(x, least);
+        i += 1;
+    }
+    k
+}
+
+// All zero from a place on.
+fn clear(table: &mut [u64], from: usize)
+    requires { ⌜ from ≤ length (now table) ⌝ }
+    ensures { λ _. ⌜ now (table .exit) ≡ take from (now (table .entry)) ++ replicate (length (now (table .entry)) - from) 0 ⌝ }
+{
+    let mut i = from;
+    while i < table.len() {
+        table[i] = 0;
+        i += 1;
+    }
+}
+
+// A table of n entries and as much room is arranged.
+fn settle(part: &[u8], table: &mut [u64], n: usize) -> Arranged
+    requires { ⌜ length (now table) ≡ 2 * n ⌝ }
+    ensures { λ r. ⌜ afterwards r (now (table .exit)) ≡ arranged (now (part .entry)) (now (table .entry)) n ⌝ }
+{
+    sort(part, table, n, n);
+    let least = first_twin(part, table, n);
+    let count = keep(table, n, least);
+    clear(table, count);
+    Arranged::Done {
+        count: count,
+        least: least,
+    }
+}
+
+// The first n entries of a table, with as much room behind them, are put in order, up to the first that has the name of one before it.
+pub fn arrange(part: &[u8], table: &mut [u64], n: usize) -> Arranged
+    ensures { λ r. ⌜ afterwards r (now (table .exit)) ≡ arranged (now (part .entry)) (now (table .entry)) n ⌝ }
+{
+    if table.len() / 2 < n {
+        return Arranged::NoRoom;
+    }
+    let size = 2 * n;
+    settle(part, &mut table[..size], n)
 }

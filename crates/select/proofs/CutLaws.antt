@@ -142,7 +142,7 @@ module _ (s t : List ℕ) (n : ℕ) (few : n ≤ length t / 2) (a : Arranged) (t
                     all = λ e i v.
                         let w = wanted-is s low (p .high) stop e v in
                         in-taken e (found e i (record { begins = omega (arith, w .begins, sooner); over = w .over; under = w .under }))
-                            (omega (arith, w .begins, sooner-too));
+                        (omega (arith, w .begins, sooner-too));
                   };
               reached = st .reached;
             }
@@ -178,9 +178,11 @@ module _ (s t : List ℕ) (n : ℕ) (few : n ≤ length t / 2) (a : Arranged) (t
                       there = λ e i.
                           let q = half-there s (take k t′) in-order taken-once j long e (rw front i) in
                           let g = taken-in e (q .0) in
-                          let w = met e (g .0) in
-                          (w .0, is-wanted s low (B.At (getD (take k t′) j 0)) stop e
-                          (record { begins = rw stop-is (lesser-both (suc (beginIn e)) (p .stop) l (w .1 .begins) (g .1)); over = w .1 .over; under = q .1 }));
+                          let w = met e (g .0) in (
+                            w .0,
+                            is-wanted s low (B.At (getD (take k t′) j 0)) stop e
+                                (record { begins = rw stop-is (lesser-both (suc (beginIn e)) (p .stop) l (w .1 .begins) (g .1)); over = w .1 .over; under = q .1 }),
+                          );
                       all = λ e i v.
                           let w = wanted-is s low (B.At (getD (take k t′) j 0)) stop e v in
                           let u = up-trans s (p .high) (getD (take k t′) j 0) e (w .under) (last-wanted .under) in

@@ -66,9 +66,10 @@ module _ (s os : List ℕ) (sorted : Sorted s os) (once : (x y : ℕ) → In x o
 
   pub half-there : (e : ℕ) → In e (take (suc h) os) → In e os × (upTo s (B.At y) e ≡ true)
   half-there e i =
-      let j : In e (take h os ++ (y ∷ [])) = rw front at i in
-      (in-whole e j,
-      in-cases e (take h os) y j (λ k. up-of e (sorted-last s (take h os) y ends e k)) (λ d. up-same s y e (ap (nameIn s) d)))
+      let j : In e (take h os ++ (y ∷ [])) = rw front at i in (
+        in-whole e j,
+        in-cases e (take h os) y j (λ k. up-of e (sorted-last s (take h os) y ends e k)) (λ d. up-same s y e (ap (nameIn s) d)),
+      )
 
   pub half-all : (e : ℕ) → In e os → upTo s (B.At y) e ≡ true → In e (take (suc h) os)
   half-all e i u =

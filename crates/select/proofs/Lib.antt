@@ -4,3 +4,5 @@ mod HalfLaws
 mod CutLaws
 mod PassLaws
 mod WalkLaws
+mod CutReturns
+mod SearchReturns

@@ -7,6 +7,7 @@ use borrow.Author.Tests.{le-leb, lt-leb, lt-ltb, le-ltb}
 use Rattle.format.specs.declared.Form.{Form}
 use Rattle.names.specs.declared.Name.{Name}
 use Rattle.names.specs.FieldNames.{nameAt}
+use Rattle.passing.specs.FrameNames as frames
 use Rattle.order.specs.declared.Order.{Order}
 use Rattle.order.specs.declared.Order.the-variants as O
 use Rattle.order.specs.Entry.{beginIn, nameIn}
@@ -23,6 +24,9 @@ use Rattle.select.specs.Range.{isMore, above, upTo, wanted}
 
 pub of-field : (o : Source) (s : List ℕ) (a : ℕ) (f : Form) → o ≡ S.Fields f → (r : Name) → r ≡ nameAt f a s → r ≡ namedAt o a s
 of-field o s a f e r i = i ∙ rw e
+
+pub of-frame : (o : Source) (s : List ℕ) (a d : ℕ) → o ≡ S.Frames d → (r : Name) → r ≡ frames.nameAt d a s → r ≡ namedAt o a s
+of-frame o s a d e r i = i ∙ rw e
 
 -- ---- a range
 

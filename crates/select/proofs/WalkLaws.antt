@@ -3,10 +3,12 @@ use Prim.Native.Nat.{ℕ, zero, suc, _+_, _-_, _≤_, _<_}
 use native.Mathlib.Omega.{arith}
 use mathlib.Core.Path.{_≡_, refl, sym, ap, _∙_}
 use mathlib.Core.List.{List, [], _∷_, _++_, append-assoc, append-nil}
-use lib.ListN.{length}
+use lib.ListN.{length, drop-of-length-le}
 use Rattle.names.specs.declared.Name.{Name}
 use Rattle.names.specs.declared.Name.the-variants as N
 use Rattle.names.proofs.NameFound.{found-at, name-at-past}
+use Rattle.passing.specs.FrameNames as frames
+use Rattle.passing.proofs.NamesLaws as passing
 use Rattle.order.specs.Entry.{entryOf}
 use Rattle.order.specs.Sorted.{In}
 use Rattle.order.proofs.NeighbourLaws.{in-left, in-last}
@@ -18,9 +20,16 @@ use Rattle.select.specs.Source.{namedAt, entriesAfter, entriesFrom, entr
 
 named-on : (o : Source) (s : List ℕ) (a b e n : ℕ) → a ≤ length s → namedAt o a s ≡ N.At b e n → (a < n) × (n ≤ length s)
 named-on (S.Fields f) s a b e n l h = let w = found-at f s a (N.At b e n) (sym h) l b e n refl in (w .onward, w .inside)
+named-on (S.Frames d) s a b e n l h = let w = passing.found-at d a s l b e n h in (w .onward, w .inside)
+
+no-frame : (d : ℕ) (s : List ℕ) (a : ℕ) → length s ≤ a → frames.nameAt d a s ≡ N.Nothing
+unfolding frames.nameAt frames.nameOf
+no-frame zero s a l = refl
+no-frame (suc d) s a l = rw (drop-of-length-le s l)
 
 named-past : (o : Source) (s : List ℕ) (a : ℕ) → length s ≤ a → namedAt o a s ≡ N.Nothing
 named-past (S.Fields f) s a l = sym (name-at-past f s a l)
+named-past (S.Frames d) s a l = no-frame d s a l
 
 -- ---- the walk
 

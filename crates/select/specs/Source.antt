@@ -5,6 +5,7 @@ use lib.ListN.{length, replicate}
 use Rattle.names.specs.declared.Name.{Name}
 use Rattle.names.specs.declared.Name.the-variants as N
 use Rattle.names.specs.FieldNames.{nameAt}
+use Rattle.passing.specs.FrameNames as frames
 use Rattle.order.specs.Entry.{entryOf}
 use Rattle.order.specs.Arranged.{least}
 use Rattle.select.specs.declared.Source.{Source}
@@ -12,6 +13,7 @@ use Rattle.select.specs.declared.Source.the-variants as S
 
 abbrev pub namedAt : Source → ℕ → List ℕ → Name
 namedAt (S.Fields f) a s = nameAt f a s
+namedAt (S.Frames d) a s = frames.nameAt d a s
 
 abbrev pub entriesAfter : List ℕ → Name → (ℕ → List ℕ) → List ℕ
 entriesAfter s N.Nothing more = []

@@ -12,9 +12,10 @@ ghost use Rattle.select.specs.Source.{namedAt, entriesOf, firstTwin, sea
 ghost use Rattle.select.specs.Range.{above, upTo, wanted};
 ghost use Rattle.select.specs.Passes.{Covered, Cuts, Adds, Finishes, Passes};
 
-// Where the names come from: the fields of an object.
+// Where the names come from: the fields of an object, or the frames that describe one, with so many levels left.
 pub enum Source {
     Fields(Form),
+    Frames(u32),
 }
 
 // The end of a range of names: there is none, or the name of an entry.
@@ -36,6 +37,7 @@ pub fn name_at(part: &[u8], at: usize, source: Source) -> Name
 {
     match source {
         Source::Fields(form) => names::name_at(part, at, form),
+        Source::Frames(left) => passing::name_at(part, at, left),
     }
 }
 
@@ -92,6 +94,7 @@ fn cut(part: &[u8], table: &mut [u64], pass: Pass) -> Pass
     requires { ⌜ (2 ≤ pass .count) × (pass .count ≤ length (now table) / 2) ⌝ }
     ensures { λ r. ⌜ Cuts (now (part .entry)) (now (table .entry)) (now (table .exit)) pass r ⌝ }
 {
+    let high = pass.high;
     let half = pass.count / 2;
     match order::arrange(part, table, pass.count) {
         Arranged::NoRoom => pass,
@@ -105,7 +108,7 @@ fn cut(part: &[u8], table: &mut [u64], pass: Pass) -> Pass
                 };
             }
             Pass {
-                high: pass.high,
+                high: high,
                 count: count,
                 stop: stop,
             }
@@ -118,11 +121,12 @@ fn put(part: &[u8], low: Bound, table: &mut [u64], pass: Pass, x: u64) -> Pass
     requires { ⌜ pass .count < length (now table) / 2 ⌝ }
     ensures { λ r. ⌜ Adds (now (part .entry)) (now (table .entry)) (now (table .exit)) low x pass r ⌝ }
 {
-    if is_wanted(part, low, pass.high, pass.stop, x) {
+    let high = pass.high;
+    if is_wanted(part, low, high, pass.stop, x) {
         let n = pass.count;
         table[n] = x;
         return Pass {
-            high: pass.high,
+            high: high,
             count: n + 1,
             stop: pass.stop,
         };
@@ -138,7 +142,8 @@ fn add(part: &[u8], low: Bound, table: &mut [u64], pass: Pass, x: u64) -> Pass
     if pass.count < table.len() / 2 {
         return put(part, low, table, pass, x);
     }
-    if is_wanted(part, low, pass.high, pass.stop, x) {
+    let high = pass.high;
+    if is_wanted(part, low, high, pass.stop, x) {
         let less = cut(part, table, pass);
         return put(part, low, table, less, x);
     }
@@ -150,10 +155,11 @@ fn finish(part: &[u8], table: &mut [u64], pass: Pass) -> Pass
     requires { ⌜ pass .count ≤ length (now table) / 2 ⌝ }
     ensures { λ r. ⌜ Finishes (now (part .entry)) (now (table .entry)) (now (table .exit)) pass r ⌝ }
 {
+    let high = pass.high;
     match order::arrange(part, table, pass.count) {
         Arranged::NoRoom => pass,
         Arranged::Done { count: _, least } => Pass {
-            high: pass.high,
+            high: high,
             count: 0,
             stop: lesser(pass.stop, least),
         },
@@ -194,7 +200,8 @@ fn search(part: &[u8], source: Source, table: &mut [u64]) -> usize
     let mut stop: usize = 16777216;
     loop {
         let pass = gather(part, source, low, table, stop);
-        match pass.high {
+        let high = pass.high;
+        match high {
             Bound::Open => {
                 return pass.stop;
             }

@@ -9,8 +9,9 @@ pub is-wanted-spec : {M : Type 1} → statement M
 is-wanted-spec =
     tie.close
     (tie.spec
+    (λ c κs. search laws)
     (λ c. search laws)
-    (λ c. search laws)
-    (λ c. search laws)
+    (λ c κs. search laws)
+    (λ c κs. search laws)
     (λ c. search laws)
     (λ c. search laws))
