@@ -6,3 +6,5 @@ mod PassLaws
 mod WalkLaws
 mod CutReturns
 mod SearchReturns
+pub mod TwinLaws
+pub mod SourceLaws
