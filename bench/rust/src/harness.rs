@@ -1,11 +1,15 @@
-//! The harness: a row is a call of the library and a straightforward Rust function on the same input. Both are run by turns
-//! in one process, and the row has the median time of each and the ratio of the two.
+//! The harness: a row is a call of the library, a straightforward Rust function and, where there is one, a careful one, on the
+//! same input. They are run by turns in one process, and the row has the median time of each and the ratios to the library's.
 
 use std::hint::black_box;
 use std::time::{Duration, Instant};
 
-/// Samples of each side of a row.
+/// Samples of each side of a row; where a call takes longer than `LONG`, and where it takes longer than `VERY_LONG`.
 const SAMPLES: usize = 41;
+const SAMPLES_OF_LONG: usize = 5;
+const SAMPLES_OF_VERY_LONG: usize = 3;
+const LONG: Duration = Duration::from_millis(50);
+const VERY_LONG: Duration = Duration::from_secs(1);
 /// A sample repeats its function until it takes about so long.
 const SAMPLE_TIME: Duration = Duration::from_millis(2);
 
@@ -17,7 +21,9 @@ pub struct Row {
     pub name: String,
     pub ours: Run,
     pub rust: Run,
-    /// Whether both sides do the same, so that their numbers have to agree; a yardstick does something else.
+    /// The careful Rust, if there is one.
+    pub careful: Option<Run>,
+    /// Whether all sides do the same, so that their numbers have to agree; a yardstick does something else.
     pub same: bool,
 }
 
@@ -26,11 +32,36 @@ pub struct Measured {
     pub name: String,
     pub ours: f64,
     pub rust: f64,
+    pub careful: Option<f64>,
 }
 
-impl Measured {
-    pub fn ratio(&self) -> f64 {
-        self.ours / self.rust
+/// One side of a row.
+struct Side {
+    run: Run,
+    answer: u64,
+    /// How long its first call took.
+    first: Duration,
+    repeats: u32,
+    samples: Vec<f64>,
+}
+
+impl Side {
+    fn new(mut run: Run) -> Side {
+        let start = Instant::now();
+        let answer = black_box(run());
+        let first = start.elapsed();
+        let repeats = if first < LONG { repeats(&mut run) } else { 1 };
+        Side { run, answer, first, repeats, samples: Vec::new() }
+    }
+
+    fn measure(&mut self) {
+        let taken = sample(&mut self.run, self.repeats);
+        self.samples.push(taken.as_nanos() as f64 / f64::from(self.repeats));
+    }
+
+    fn median(&mut self) -> f64 {
+        self.samples.sort_by(f64::total_cmp);
+        self.samples[self.samples.len() / 2]
     }
 }
 
@@ -54,22 +85,25 @@ fn sample(run: &mut Run, repeats: u32) -> Duration {
     start.elapsed()
 }
 
-fn median(mut samples: Vec<f64>) -> f64 {
-    samples.sort_by(f64::total_cmp);
-    samples[samples.len() / 2]
-}
-
 /// Measures a row, or says that its sides differ.
-pub fn measure(mut row: Row) -> Result<Measured, String> {
-    let (ours, rust) = ((row.ours)(), (row.rust)());
-    if row.same && ours != rust {
-        return Err(format!("{}: the library's answer is {ours}, Rust's {rust}", row.name));
+pub fn measure(row: Row) -> Result<Measured, String> {
+    let (mut ours, mut rust) = (Side::new(row.ours), Side::new(row.rust));
+    let mut careful = row.careful.map(Side::new);
+    for side in [Some(&rust), careful.as_ref()].into_iter().flatten() {
+        if row.same && ours.answer != side.answer {
+            return Err(format!("{}: the library's answer is {}, Rust's {}", row.name, ours.answer, side.answer));
+        }
     }
-    let (ours_repeats, rust_repeats) = (repeats(&mut row.ours), repeats(&mut row.rust));
-    let (mut ours, mut rust) = (Vec::new(), Vec::new());
-    for _ in 0..SAMPLES {
-        ours.push(sample(&mut row.ours, ours_repeats).as_nanos() as f64 / f64::from(ours_repeats));
-        rust.push(sample(&mut row.rust, rust_repeats).as_nanos() as f64 / f64::from(rust_repeats));
+    let samples = match ours.first.max(rust.first) {
+        first if first > VERY_LONG => SAMPLES_OF_VERY_LONG,
+        first if first > LONG => SAMPLES_OF_LONG,
+        _ => SAMPLES,
+    };
+    for _ in 0..samples {
+        ours.measure();
+        rust.measure();
+        careful.iter_mut().for_each(Side::measure);
     }
-    Ok(Measured { name: row.name, ours: median(ours), rust: median(rust) })
+    let careful = careful.as_mut().map(Side::median);
+    Ok(Measured { name: row.name, ours: ours.median(), rust: rust.median(), careful })
 }

@@ -131,8 +131,62 @@ pub fn measure_name(index: usize) -> Vec<u8> {
 
 /// One object of so many names of 14 bytes, 16 bytes a field.
 pub fn names(count: usize) -> Vec<u8> {
-    let fields = (0..count).map(|index| (measure_name(index), integer(index % 100)));
-    encode(&Tree::Object(fields.collect())).bytes
+    encode(&measures((0..count).map(measure_name))).bytes
+}
+
+/// The same, in no order.
+pub fn shuffled_names(count: usize) -> Vec<u8> {
+    encode(&measures(shuffled((0..count).map(measure_name).collect()))).bytes
+}
+
+fn measures(names: impl IntoIterator<Item = Vec<u8>>) -> Tree {
+    Tree::Object(names.into_iter().enumerate().map(|(index, name)| (name, integer(index % 100))).collect())
+}
+
+fn shuffled(mut names: Vec<Vec<u8>>) -> Vec<Vec<u8>> {
+    let mut random = Random::new(SEED, 7);
+    for index in 1..names.len() {
+        names.swap(index, random.below(index + 1));
+    }
+    names
+}
+
+/// An object of these names that has nothing else.
+pub fn nulls(names: Vec<Vec<u8>>) -> Tree {
+    Tree::Object(names.into_iter().map(|name| (name, Tree::Null)).collect())
+}
+
+/// So many names of this many small letters, ascending.
+fn letters(length: u32, count: usize) -> Vec<Vec<u8>> {
+    let digit = |index: usize, place: u32| b'a' + (index / 26_usize.pow(place) % 26) as u8;
+    (0..count).map(|index| (0..length).rev().map(|place| digit(index, place)).collect()).collect()
+}
+
+/// How many fit in so many bytes, where each takes this many, beside an object's type byte, size and shared byte.
+fn fitting(length: usize, each: usize) -> usize {
+    (length - 5) / each
+}
+
+/// Names of 3 bytes, as many as fit in so many bytes where a field has `more` bytes beside its name.
+pub fn short_names(length: usize, more: usize) -> Vec<Vec<u8>> {
+    letters(3, fitting(length, 3 + more))
+}
+
+pub fn shuffled_short_names(length: usize, more: usize) -> Vec<Vec<u8>> {
+    shuffled(short_names(length, more))
+}
+
+/// Names that all have the same last 8 bytes and differ in 3 before them, in no order.
+pub fn same_ends(length: usize, more: usize) -> Vec<Vec<u8>> {
+    let names = shuffled(letters(3, fitting(length, 11 + more)));
+    names.into_iter().map(|front| [front, name("_of_last")].concat()).collect()
+}
+
+/// Names that all have the same first 60 bytes and differ in 3 behind them, in no order.
+pub fn same_fronts(length: usize, more: usize) -> Vec<Vec<u8>> {
+    let front = name("measured by hand at the ball, the waist, the instep and the: ");
+    let names = shuffled(letters(3, fitting(length, front.len() + 3 + more)));
+    names.into_iter().map(|end| [&front[..], &end].concat()).collect()
 }
 
 /// The most names that fit: every name of one byte, then of two, then of three, each a field that has nothing else.
@@ -184,10 +238,24 @@ pub fn integer_list(count: usize) -> Vec<u8> {
     list_of(&Tree::Array((0..count).map(|_| integer(random.below(256))).collect()))
 }
 
+/// The name of 13 bytes that a frame of `name_list` has.
+fn frame_name(index: usize) -> Vec<u8> {
+    name(&format!("measuring{index:04}"))
+}
+
 /// The write list of one object of so many names of 13 bytes, 16 bytes a frame.
 pub fn name_list(count: usize) -> Vec<u8> {
-    let fields = (0..count).map(|index| (name(&format!("measuring{index:04}")), integer(index % 100)));
-    list_of(&Tree::Object(fields.collect()))
+    list_of(&measures((0..count).map(frame_name)))
+}
+
+/// The same, in no order.
+pub fn shuffled_name_list(count: usize) -> Vec<u8> {
+    list_of(&measures(shuffled((0..count).map(frame_name).collect())))
+}
+
+/// The write list of an object of these names that has nothing else.
+pub fn null_list(names: Vec<Vec<u8>>) -> Vec<u8> {
+    list_of(&nulls(names))
 }
 
 /// The write list of the array of chains.

@@ -1,8 +1,10 @@
-//! bench [--tsv] [WORD..]: measures the library beside straightforward Rust, each row on the same input in the same run, and
-//! prints a table, or with --tsv a line `ROW<tab>OURS_NS<tab>RUST_NS<tab>RATIO` for each row. A row is there if the library
-//! has its call and, where words are given, its name has one of them. The exit status is 1 if the two sides of a row do not
-//! answer the same, 2 if there is no row.
+//! bench [--tsv] [WORD..]: measures the library beside straightforward Rust and, where there is one, careful Rust, each row on
+//! the same input in the same run, and prints a table, or with --tsv a line
+//! `ROW<tab>OURS_NS<tab>RUST_NS<tab>RATIO<tab>CAREFUL_NS<tab>RATIO` for each row; where there is no careful Rust, the last two
+//! are `-`. A row is there if the library has its call and, where words are given, its name has one of them. The exit status is
+//! 1 if the sides of a row do not answer the same, 2 if there is no row.
 
+mod careful;
 mod harness;
 mod inputs;
 mod parts;
@@ -32,7 +34,11 @@ fn main() -> ExitCode {
         return ExitCode::from(2);
     }
     if !tsv {
-        println!("{:<52} {:>14} {:>14} {:>8}", "row (medians, ns)", "this library", "plain Rust", "ratio");
+        let titles = ["this library", "plain Rust", "ratio", "careful Rust", "ratio"];
+        println!(
+            "{:<60} {:>13} {:>12} {:>8} {:>13} {:>8}",
+            "row (medians, ns)", titles[0], titles[1], titles[2], titles[3], titles[4]
+        );
     }
     let mut wrong = false;
     for row in rows {
@@ -48,9 +54,16 @@ fn main() -> ExitCode {
 }
 
 fn print(row: &Measured, tsv: bool) {
+    let (ours, rust, ratio) = (format!("{:.0}", row.ours), format!("{:.0}", row.rust), row.ours / row.rust);
+    let (careful, careful_ratio) = match row.careful {
+        Some(careful) => (format!("{careful:.0}"), Some(row.ours / careful)),
+        None => ("-".to_string(), None),
+    };
     if tsv {
-        println!("{}\t{:.0}\t{:.0}\t{:.3}", row.name, row.ours, row.rust, row.ratio());
+        let careful_ratio = careful_ratio.map_or("-".to_string(), |ratio| format!("{ratio:.3}"));
+        println!("{}\t{ours}\t{rust}\t{ratio:.3}\t{careful}\t{careful_ratio}", row.name);
     } else {
-        println!("{:<52} {:>14.0} {:>14.0} {:>8.2}", row.name, row.ours, row.rust, row.ratio());
+        let careful_ratio = careful_ratio.map_or("-".to_string(), |ratio| format!("{ratio:.2}"));
+        println!("{:<60} {ours:>13} {rust:>12} {ratio:>8.2} {careful:>13} {careful_ratio:>8}", row.name);
     }
 }

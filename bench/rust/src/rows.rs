@@ -8,10 +8,12 @@ use ajuqvane_tests::independent::write::tree_of_list;
 use ajuqvane_tests::library;
 
 use crate::harness::Row;
-use crate::{inputs, plain, reader};
+use crate::{careful, inputs, plain, reader};
 
 /// 64 KiB.
 const WHOLE: usize = 65_536;
+/// How many inputs near its own a row of careful Rust is checked on.
+const CHANGES: usize = 64;
 
 pub fn rows() -> Vec<Row> {
     let mut rows = Vec::new();
@@ -27,15 +29,28 @@ pub fn rows() -> Vec<Row> {
         rows.push(float_row());
     }
     if library::HAS_VALIDATE {
+        let nulls = |names| encode(&inputs::nulls(names)).bytes;
         let payloads = [
             ("manifest, 64 KiB", inputs::manifest()),
             ("16,000 Float32", inputs::floats(16_000)),
+            ("10 names", inputs::names(10)),
+            ("10 names, shuffled", inputs::shuffled_names(10)),
+            ("400 names, 6 KiB", inputs::names(400)),
+            ("400 names, 6 KiB, shuffled", inputs::shuffled_names(400)),
             ("1,000 names, 16 KiB", inputs::names(1_000)),
+            ("1,000 names, 16 KiB, shuffled", inputs::shuffled_names(1_000)),
             ("2,000 names, 32 KiB", inputs::names(2_000)),
             ("4,000 names, 64 KiB", inputs::names(4_000)),
+            ("4,000 names, 64 KiB, shuffled", inputs::shuffled_names(4_000)),
             ("most names, 16 KiB", inputs::most_names(WHOLE / 4)),
             ("most names, 32 KiB", inputs::most_names(WHOLE / 2)),
             ("most names, 64 KiB", inputs::most_names(WHOLE)),
+            ("names of 3 bytes, 64 KiB", nulls(inputs::short_names(WHOLE, 1))),
+            ("names of 3 bytes, 16 KiB, shuffled", nulls(inputs::shuffled_short_names(WHOLE / 4, 1))),
+            ("names of 3 bytes, 32 KiB, shuffled", nulls(inputs::shuffled_short_names(WHOLE / 2, 1))),
+            ("names of 3 bytes, 64 KiB, shuffled", nulls(inputs::shuffled_short_names(WHOLE, 1))),
+            ("the same last 8 bytes, 64 KiB, shuffled", nulls(inputs::same_ends(WHOLE, 1))),
+            ("the same first 60 bytes, 64 KiB, shuffled", nulls(inputs::same_fronts(WHOLE, 1))),
             ("depth 32, 64 KiB", inputs::deep()),
         ];
         for (name, payload) in payloads {
@@ -56,12 +71,27 @@ pub fn rows() -> Vec<Row> {
         rows.push(floats_row());
     }
     if library::HAS_WRITE {
-        rows.push(write_row("manifest, 64 KiB", inputs::manifest_list()));
-        rows.push(write_row("20,000 integers in an array", inputs::integer_list(20_000)));
-        rows.push(write_row("depth 32, 64 KiB", inputs::deep_list()));
-        rows.push(write_row("1,000 names, 16 KiB", inputs::name_list(1_000)));
-        rows.push(write_row("2,000 names, 32 KiB", inputs::name_list(2_000)));
-        rows.push(write_row("4,000 names, 64 KiB", inputs::name_list(4_000)));
+        let lists = [
+            ("manifest, 64 KiB", inputs::manifest_list()),
+            ("20,000 integers in an array", inputs::integer_list(20_000)),
+            ("depth 32, 64 KiB", inputs::deep_list()),
+            ("10 names", inputs::name_list(10)),
+            ("10 names, shuffled", inputs::shuffled_name_list(10)),
+            ("400 names, 6 KiB", inputs::name_list(400)),
+            ("400 names, 6 KiB, shuffled", inputs::shuffled_name_list(400)),
+            ("1,000 names, 16 KiB", inputs::name_list(1_000)),
+            ("1,000 names, 16 KiB, shuffled", inputs::shuffled_name_list(1_000)),
+            ("2,000 names, 32 KiB", inputs::name_list(2_000)),
+            ("4,000 names, 64 KiB", inputs::name_list(4_000)),
+            ("4,000 names, 64 KiB, shuffled", inputs::shuffled_name_list(4_000)),
+            ("names of 3 bytes, 64 KiB", inputs::null_list(inputs::short_names(WHOLE, 2))),
+            ("names of 3 bytes, 16 KiB, shuffled", inputs::null_list(inputs::shuffled_short_names(WHOLE / 4, 2))),
+            ("names of 3 bytes, 32 KiB, shuffled", inputs::null_list(inputs::shuffled_short_names(WHOLE / 2, 2))),
+            ("names of 3 bytes, 64 KiB, shuffled", inputs::null_list(inputs::shuffled_short_names(WHOLE, 2))),
+            ("the same last 8 bytes, 64 KiB, shuffled", inputs::null_list(inputs::same_ends(WHOLE, 2))),
+            ("the same first 60 bytes, 64 KiB, shuffled", inputs::null_list(inputs::same_fronts(WHOLE, 2))),
+        ];
+        rows.extend(lists.map(|(name, list)| write_row(name, list)));
     }
     rows
 }
@@ -85,6 +115,7 @@ fn varuint_row() -> Row {
                 sum.wrapping_add(answer.0 ^ answer.1 as u64 ^ u64::from(answer.2))
             })
         }),
+        careful: None,
         same: true,
     }
 }
@@ -96,6 +127,7 @@ fn text_row(name: &str, text: Vec<u8>) -> Row {
         name: name.to_string(),
         ours: Box::new(move || library::is_text(&our_text).unwrap_or(2).into()),
         rust: Box::new(move || plain::is_text(&text).into()),
+        careful: None,
         same: true,
     }
 }
@@ -107,16 +139,35 @@ fn float_row() -> Row {
         name: "Float rule, 10,000 patterns".to_string(),
         ours: Box::new(move || our_patterns.iter().map(|p| u64::from(library::float32_holds(*p).unwrap_or(2))).sum()),
         rust: Box::new(move || patterns.iter().map(|p| u64::from(plain::float32_holds(*p))).sum()),
+        careful: None,
         same: true,
     }
 }
 
+/// A payload or list with one byte changed, at some places from front to back.
+fn changed(bytes: &[u8]) -> impl Iterator<Item = Vec<u8>> + '_ {
+    (0..CHANGES).map(|change| {
+        let mut other = bytes.to_vec();
+        other[bytes.len() * change / CHANGES] ^= 1 << (change % 8);
+        other
+    })
+}
+
+/// The straightforward and the careful validator agree on a payload with all modes, and strictly on some that are near it.
+fn check_careful_validate(payload: &[u8], table: &mut careful::Table) -> bool {
+    let mut agree = |modes, payload: &[u8]| plain::validate(modes, payload) == careful::validate(modes, payload, table);
+    (0..8).all(|modes| agree(modes, payload)) && changed(payload).all(|other| agree(7, &other))
+}
+
 fn validate_row(name: &str, modes: u32, payload: Rc<[u8]>) -> Row {
-    let our_payload = payload.clone();
+    let (our_payload, careful_payload) = (payload.clone(), payload.clone());
+    let mut table = careful::table();
+    assert!(check_careful_validate(&payload, &mut table), "validate: {name}: the careful Rust answers otherwise");
     Row {
         name: format!("validate, modes {modes}: {name}"),
         ours: Box::new(move || library::validate(modes, &our_payload).unwrap_or(u32::MAX).into()),
         rust: Box::new(move || plain::validate(modes, &payload).into()),
+        careful: Some(Box::new(move || careful::validate(modes, &careful_payload, &mut table).into())),
         same: true,
     }
 }
@@ -128,6 +179,7 @@ fn yardstick_row(name: &str, payload: Rc<[u8]>) -> Row {
         name: format!("validate, modes 0 : sum of the bytes: {name}"),
         ours: Box::new(move || library::validate(0, &our_payload).unwrap_or(u32::MAX).into()),
         rust: Box::new(move || plain::sum(&payload)),
+        careful: None,
         same: false,
     }
 }
@@ -183,6 +235,7 @@ fn walk_row(name: &str, payload: Vec<u8>) -> Row {
             }
         }),
         rust: Box::new(move || plain::top(&payload).map_or(u64::MAX - 1, |top| rust_walk(&payload, top, 0))),
+        careful: None,
         same: true,
     }
 }
@@ -215,6 +268,7 @@ fn lookup_row(text: &str, count: usize) -> Row {
                 mixed(0, field.kind.into(), field.start as u64, field.end as u64, field.depth.into(), 0)
             })
         }),
+        careful: None,
         same: true,
     }
 }
@@ -252,6 +306,7 @@ fn floats_row() -> Row {
             }
             sum
         }),
+        careful: None,
         same: true,
     }
 }
@@ -262,18 +317,31 @@ fn mixed_write(length: usize, output: &[u8], work: &[u32]) -> u64 {
     (length as u64) << 40 ^ u64::from(last) << 32 ^ u64::from(work.first().copied().unwrap_or(0))
 }
 
+/// The straightforward and the careful writer agree on a list.
+fn check_careful_write(list: &[u8], containers: usize, table: &mut careful::Table) -> bool {
+    let (mut output, mut work) = (vec![7; WHOLE], vec![7; containers]);
+    let (mut other_output, mut other_work) = (output.clone(), work.clone());
+    let answer = plain::write(list, &mut output, &mut work);
+    let other = careful::write(list, &mut other_output, &mut other_work, table);
+    answer == other && output == other_output && work == other_work
+}
+
 /// The encoding of a list, with 64 KiB of output and as many work numbers as there are containers; each side has its own.
 fn write_row(name: &str, list: Vec<u8>) -> Row {
     let list: Rc<[u8]> = list.into();
-    let our_list = list.clone();
+    let (our_list, careful_list) = (list.clone(), list.clone());
     let containers = tree_of_list(&list).map_or(0, |tree| encode(&tree).sizes.len());
     let (mut our_output, mut our_work) = (vec![0; WHOLE], vec![0; containers]);
     let (mut output, mut work) = (our_output.clone(), our_work.clone());
+    let (mut careful_output, mut careful_work, mut table) = (output.clone(), work.clone(), careful::table());
     let mut answer = [0; 1];
     let ours = library::write(&list, &mut our_output, &mut our_work, &mut answer);
     let rust = plain::write(&list, &mut output, &mut work);
     let same = ours == Some(0) && rust == Ok(answer[0] as usize) && our_output == output && our_work == work;
     assert!(same, "write: {name}: {ours:?} {answer:?}, Rust {rust:?}");
+    let mut agree = |list: &[u8]| check_careful_write(list, containers, &mut table);
+    let same = agree(&list) && changed(&list).all(|other| agree(&other));
+    assert!(same, "write: {name}: the careful Rust answers otherwise");
     Row {
         name: format!("write: {name}"),
         ours: Box::new(move || {
@@ -287,6 +355,12 @@ fn write_row(name: &str, list: Vec<u8>) -> Row {
             Ok(length) => mixed_write(length, &output, &work),
             Err(_) => u64::MAX - 1,
         }),
+        careful: Some(Box::new(move || {
+            match careful::write(&careful_list, &mut careful_output, &mut careful_work, &mut table) {
+                Ok(length) => mixed_write(length, &careful_output, &careful_work),
+                Err(_) => u64::MAX - 1,
+            }
+        })),
         same: true,
     }
 }

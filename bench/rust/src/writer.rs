@@ -58,7 +58,7 @@ pub fn write(list: &[u8], output: &mut [u8], work: &mut [u32]) -> Result<usize, 
     Ok(length)
 }
 
-fn varuint_length(value: u64) -> usize {
+pub fn varuint_length(value: u64) -> usize {
     (1..9).find(|length| value < 1 << (7 * length)).unwrap_or(9)
 }
 

@@ -1,5 +1,5 @@
--- What the program answers to what was typed, and what all that it lends holds afterwards (document 01, "The write list", its last paragraph). `program`, of all
--- that was read, is in frames' Program.antt, and program's proofs/InParts.antt says that this gives it, in whatever parts it was read.
+-- What the program answers to what was typed, and what all that it lends holds afterwards (document 01, "The write list", its last paragraph). `program`, of
+-- all that was read, is in frames' Program.antt, and program's proofs/InParts.antt says that this gives it, in whatever parts it was read.
 use Prim.Native.Nat.{ℕ}
 use mathlib.Core.Bool.{Bool, true, false, _||_, cond}
 use mathlib.Core.List.{List, _++_}

@@ -28,7 +28,8 @@ pub struct Printed {
 // What the program answers to a list.
 fn answer_to(list: &[u8], out: &mut [u8], numbers: &mut [u32], text: &mut [u8]) -> Printed
     requires { ⌜ (length (now out) ≡ 65536) × (length (now numbers) ≡ 16384) × (length (now text) ≡ 131073) ⌝ }
-    ensures { λ r. ⌜ afterwards r (now (text .exit)) (now (out .exit)) (now (numbers .exit)) ≡ answeredOf (typed (now (list .entry))) (now (text .entry)) (now (out .entry)) (now (numbers .entry)) ⌝ }
+    ensures { λ r. ⌜ afterwards r (now (text .exit)) (now (out .exit)) (now (numbers .exit))
+        ≡ answeredOf (typed (now (list .entry))) (now (text .entry)) (now (out .entry)) (now (numbers .entry)) ⌝ }
 {
     match write::write(list, out, numbers) {
         Written::Done(size) => {
@@ -66,7 +67,8 @@ pub fn answer(
     numbers: &mut [u32; NUMBERS],
     text: &mut [u8; TEXT],
 ) -> Printed
-    ensures { λ r. ⌜ afterwards r (now (text .exit)) (now (out .exit)) (now (numbers .exit)) ≡ answered typing (now (list .entry)) (now (text .entry)) (now (out .entry)) (now (numbers .entry)) ⌝ }
+    ensures { λ r. ⌜ afterwards r (now (text .exit)) (now (out .exit)) (now (numbers .exit))
+        ≡ answered typing (now (list .entry)) (now (text .entry)) (now (out .entry)) (now (numbers .entry)) ⌝ }
 {
     if typing.begun | typing.wrong {
         container::clear(numbers);
@@ -90,7 +92,8 @@ pub fn whole(
     text: &mut [u8; TEXT],
 ) -> Printed
     ensures { λ r. ⌜ now (text .exit) ≡ program (now (input .entry)) ++ drop (r .length) (now (text .entry)) ⌝ }
-    ensures { λ r. ⌜ afterwards r (now (text .exit)) (now (out .exit)) (now (numbers .exit)) ≡ answeredOf (bytesTyped (now (input .entry))) (now (text .entry)) (now (out .entry)) (now (numbers .entry)) ⌝ }
+    ensures { λ r. ⌜ afterwards r (now (text .exit)) (now (out .exit)) (now (numbers .exit))
+        ≡ answeredOf (bytesTyped (now (input .entry))) (now (text .entry)) (now (out .entry)) (now (numbers .entry)) ⌝ }
     ensures { λ r. ⌜ now (list .exit) ≡ fed (now (input .entry)) start (now (list .entry)) .list ⌝ }
 {
     let typing = hexadecimal::feed(input, hexadecimal::nothing(), list);

@@ -1,4 +1,5 @@
--- The call on write lists, whenever its answer is not 0: "a refused write gives its number and place, leaves the output untouched and zeroes the work numbers."
+-- The call on write lists, whenever its answer is not 0: "a refused write gives its number and place,
+-- leaves the output untouched and zeroes the work numbers."
 use Prim.Native.Nat.{ℕ}
 use mathlib.Core.Path.{_≡_, refl}
 use mathlib.Core.Bool.{Bool, true, false, cond}

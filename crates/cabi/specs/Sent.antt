@@ -30,4 +30,5 @@ sentOf r l = record { code = codeOf (r .answer); held = sets l 0 (numberOf (r .a
 
 -- where no number is lent for the answer, that is a refusal too: the output is left, and all work numbers are zero
 unfoldable pub sent : List ℕ → List ℕ → List ℕ → List ℕ → Sent
-sent list output work l = cond (ltb (length l) 1) (record { code = tooFew; held = l; output = output; work = zeros (length work) }) (sentOf (written list output work) l)
+sent list output work l =
+    cond (ltb (length l) 1) (record { code = tooFew; held = l; output = output; work = zeros (length work) }) (sentOf (written list output work) l)

@@ -99,7 +99,8 @@ pub extern "C" fn ajuqvane_step(
     last: usize,
     answer: &mut [u64],
 ) -> u32
-    ensures { λ r. ⌜ afterwards r (now (answer .exit)) ≡ told 5 (stepReply (step (now (payload .entry)) (placeOf kind start end depth) (afterOf some last))) (now (answer .entry)) ⌝ }
+    ensures { λ r. ⌜ afterwards r (now (answer .exit))
+        ≡ told 5 (stepReply (step (now (payload .entry)) (placeOf kind start end depth) (afterOf some last))) (now (answer .entry)) ⌝ }
 {
     place_replies::step(
         read::step(
@@ -121,7 +122,8 @@ pub extern "C" fn ajuqvane_view(
     depth: u32,
     answer: &mut [u64],
 ) -> u32
-    ensures { λ r. ⌜ afterwards r (now (answer .exit)) ≡ told 2 (partReply (part (now (payload .entry)) (placeOf kind start end depth))) (now (answer .entry)) ⌝ }
+    ensures { λ r. ⌜ afterwards r (now (answer .exit))
+        ≡ told 2 (partReply (part (now (payload .entry)) (placeOf kind start end depth))) (now (answer .entry)) ⌝ }
 {
     place_replies::part(
         views::part(payload, Place::of(kind, start, end, depth)),
@@ -140,7 +142,8 @@ pub extern "C" fn ajuqvane_lookup<'a>(
     name: &'a [u8],
     answer: &mut [u64],
 ) -> u32
-    ensures { λ r. ⌜ afterwards r (now (answer .exit)) ≡ told 4 (foundReply (lookup (now (payload .entry)) (placeOf kind start end depth) (now (name .entry)))) (now (answer .entry)) ⌝ }
+    ensures { λ r. ⌜ afterwards r (now (answer .exit))
+        ≡ told 4 (foundReply (lookup (now (payload .entry)) (placeOf kind start end depth) (now (name .entry)))) (now (answer .entry)) ⌝ }
 {
     place_replies::found(
         read::lookup(payload, Place::of(kind, start, end, depth), name),
@@ -158,7 +161,8 @@ pub extern "C" fn ajuqvane_double(
     depth: u32,
     answer: &mut [u64],
 ) -> u32
-    ensures { λ r. ⌜ afterwards r (now (answer .exit)) ≡ told 1 (doubleReply (double (now (payload .entry)) (placeOf kind start end depth))) (now (answer .entry)) ⌝ }
+    ensures { λ r. ⌜ afterwards r (now (answer .exit))
+        ≡ told 1 (doubleReply (double (now (payload .entry)) (placeOf kind start end depth))) (now (answer .entry)) ⌝ }
 {
     replies::double(
         values::double(payload, Place::of(kind, start, end, depth)),
@@ -176,7 +180,8 @@ pub extern "C" fn ajuqvane_signed(
     depth: u32,
     answer: &mut [u64],
 ) -> u32
-    ensures { λ r. ⌜ afterwards r (now (answer .exit)) ≡ told 1 (signedReply (signed (now (payload .entry)) (placeOf kind start end depth))) (now (answer .entry)) ⌝ }
+    ensures { λ r. ⌜ afterwards r (now (answer .exit))
+        ≡ told 1 (signedReply (signed (now (payload .entry)) (placeOf kind start end depth))) (now (answer .entry)) ⌝ }
 {
     replies::signed(
         values::signed(payload, Place::of(kind, start, end, depth)),
@@ -194,7 +199,8 @@ pub extern "C" fn ajuqvane_unsigned(
     depth: u32,
     answer: &mut [u64],
 ) -> u32
-    ensures { λ r. ⌜ afterwards r (now (answer .exit)) ≡ told 1 (unsignedReply (unsigned (now (payload .entry)) (placeOf kind start end depth))) (now (answer .entry)) ⌝ }
+    ensures { λ r. ⌜ afterwards r (now (answer .exit))
+        ≡ told 1 (unsignedReply (unsigned (now (payload .entry)) (placeOf kind start end depth))) (now (answer .entry)) ⌝ }
 {
     replies::unsigned(
         values::unsigned(payload, Place::of(kind, start, end, depth)),
@@ -212,7 +218,8 @@ pub extern "C" fn ajuqvane_ticks(
     depth: u32,
     answer: &mut [u64],
 ) -> u32
-    ensures { λ r. ⌜ afterwards r (now (answer .exit)) ≡ told 1 (ticksReply (ticks (now (payload .entry)) (placeOf kind start end depth))) (now (answer .entry)) ⌝ }
+    ensures { λ r. ⌜ afterwards r (now (answer .exit))
+        ≡ told 1 (ticksReply (ticks (now (payload .entry)) (placeOf kind start end depth))) (now (answer .entry)) ⌝ }
 {
     replies::ticks(
         values::ticks(payload, Place::of(kind, start, end, depth)),
@@ -228,7 +235,8 @@ pub extern "C" fn ajuqvane_write(
     work: &mut [u32],
     answer: &mut [u64],
 ) -> u32
-    ensures { λ r. ⌜ record { code = r; held = now (answer .exit); output = now (out .exit); work = now (work .exit) } ≡ sent (now (list .entry)) (now (out .entry)) (now (work .entry)) (now (answer .entry)) ⌝ }
+    ensures { λ r. ⌜ record { code = r; held = now (answer .exit); output = now (out .exit); work = now (work .exit) }
+        ≡ sent (now (list .entry)) (now (out .entry)) (now (work .entry)) (now (answer .entry)) ⌝ }
 {
     if answer.len() < 1 {
         container::clear(work);

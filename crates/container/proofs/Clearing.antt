@@ -35,7 +35,10 @@ clear-start w = record { is = refl }
 
 pub clear-more : (w₀ w : List ℕ) (i : ℕ) → Cleared w₀ w i → i < length w₀ → Cleared w₀ (set w i 0) (i + 1)
 clear-more w₀ w i e h =
-    record { is = rw (e .is, drop-cons w₀ i 0 h, set-at (zeros i) (getD w₀ i 0) (drop (suc i) w₀) 0 i (length-replicate i 0), add-one i) (zeros-cons i (drop (suc i) w₀)) }
+    record {
+      is = rw (e .is, drop-cons w₀ i 0 h, set-at (zeros i) (getD w₀ i 0) (drop (suc i) w₀) 0 i (length-replicate i 0), add-one i)
+          (zeros-cons i (drop (suc i) w₀));
+    }
 
 pub clear-done : (w₀ w : List ℕ) (i : ℕ) → Cleared w₀ w i → i ≤ length w₀ → length w₀ ≤ i → w ≡ cleared w₀
 unfolding cleared

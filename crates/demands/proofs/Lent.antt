@@ -34,12 +34,14 @@ unfolding varUInt encoded isText due equal known isBare isUniform isUniformArray
 work-numbers-lent = refl
 
 -- an encoding of 65,536 bytes is written, and one of 65,537 refused with 11 where the output is larger too: 65,527 and 65,528 bytes in a binary in an array
-pub encoding-limit : map (λ l. told (outcome 70000 1 l)) ((0x04 ∷ 0x06 ∷ 0xc0 ∷ 0xff ∷ 0xf7 ∷ replicate 65528 0) ∷ (0x04 ∷ 0x06 ∷ 0xc0 ∷ 0xff ∷ 0xf8 ∷ replicate 65529 0) ∷ [])
+pub encoding-limit : map (λ l. told (outcome 70000 1 l))
+    ((0x04 ∷ 0x06 ∷ 0xc0 ∷ 0xff ∷ 0xf7 ∷ replicate 65528 0) ∷ (0x04 ∷ 0x06 ∷ 0xc0 ∷ 0xff ∷ 0xf8 ∷ replicate 65529 0) ∷ [])
     ≡ (0 ∷ 65536 ∷ 1 ∷ []) ∷ (11 ∷ 0 ∷ []) ∷ []
 unfolding varUInt encoded isText due equal known isBare isUniform isUniformArray readVarUInt fixed isEmpty twins payload readFrames readList encoding outcome
 encoding-limit = refl
 
 -- the program's output has 65,536 bytes: a binary of 65,532 bytes is written; a list of 65,537 bytes is refused with 9
-pub output-lent : map (λ l. told (programOf (typed l))) ((0x06 ∷ 0xc0 ∷ 0xff ∷ 0xfc ∷ replicate 65532 0) ∷ replicate 65537 0 ∷ []) ≡ (0 ∷ 65536 ∷ 0 ∷ []) ∷ (9 ∷ 0 ∷ []) ∷ []
+pub output-lent : map (λ l. told (programOf (typed l))) ((0x06 ∷ 0xc0 ∷ 0xff ∷ 0xfc ∷ replicate 65532 0) ∷ replicate 65537 0 ∷ [])
+    ≡ (0 ∷ 65536 ∷ 0 ∷ []) ∷ (9 ∷ 0 ∷ []) ∷ []
 unfolding varUInt encoded isText due equal known isBare isUniform isUniformArray readVarUInt fixed isEmpty twins payload readFrames readList encoding outcome
 output-lent = refl

@@ -14,7 +14,8 @@ pub codes-pinned : noMore ∷ notThere ∷ wrongKind ∷ outOfRange ∷ tooFew �
 codes-pinned = refl
 
 -- too few: nothing that is lent for an answer is touched, and a refused write clears the work numbers
-pub too-few-lent : varuint (0x05 ∷ []) (1 ∷ 2 ∷ []) ∷ told 4 (given (8 ∷ 1 ∷ 2 ∷ 1 ∷ [])) (1 ∷ 2 ∷ 3 ∷ []) ∷ [] ≡ afterwards 12 (1 ∷ 2 ∷ []) ∷ afterwards 12 (1 ∷ 2 ∷ 3 ∷ []) ∷ []
+pub too-few-lent : varuint (0x05 ∷ []) (1 ∷ 2 ∷ []) ∷ told 4 (given (8 ∷ 1 ∷ 2 ∷ 1 ∷ [])) (1 ∷ 2 ∷ 3 ∷ []) ∷ [] ≡ afterwards 12 (1 ∷ 2 ∷ [])
+    ∷ afterwards 12 (1 ∷ 2 ∷ 3 ∷ []) ∷ []
 too-few-lent = refl
 
 -- as many as are asked for: the values stand at the front, and what is behind them stays

@@ -41,7 +41,8 @@ scattered-again v at n start out rest i s h =
     record {
       most = omega (arith, s .most);
       rest-is = rw (k, s .rest-is) q;
-      out-is = rw (k, p, s .out-is, s .rest-is, add-one (at + i)) (set-sets (toBytes (n - i) v) start (at + i) (suc (at + i)) (v / 256 ^ (n - i) % 256) (omega arith));
+      out-is = rw (k, p, s .out-is, s .rest-is, add-one (at + i))
+          (set-sets (toBytes (n - i) v) start (at + i) (suc (at + i)) (v / 256 ^ (n - i) % 256) (omega arith));
     }
 
 pub scattered-end : (v at n : ℕ) (start out : List ℕ) (rest i : ℕ) → Scattered v at n start out rest i → i ≤ 0

@@ -52,8 +52,10 @@ unfolding every
 every-at zero p e [] l = e
 every-at zero p e (b ∷ bs) l = absurd (omega arith)
 every-at (suc n) p e [] l = absurd (omega arith)
-every-at (suc n) p e (true ∷ bs) l = every-at n (λ bs. p (true ∷ bs)) (both (every n (λ bs. p (true ∷ bs))) (every n (λ bs. p (false ∷ bs))) e .0) bs (omega arith)
-every-at (suc n) p e (false ∷ bs) l = every-at n (λ bs. p (false ∷ bs)) (both (every n (λ bs. p (true ∷ bs))) (every n (λ bs. p (false ∷ bs))) e .1) bs (omega arith)
+every-at (suc n) p e (true ∷ bs) l =
+    every-at n (λ bs. p (true ∷ bs)) (both (every n (λ bs. p (true ∷ bs))) (every n (λ bs. p (false ∷ bs))) e .0) bs (omega arith)
+every-at (suc n) p e (false ∷ bs) l =
+    every-at n (λ bs. p (false ∷ bs)) (both (every n (λ bs. p (true ∷ bs))) (every n (λ bs. p (false ∷ bs))) e .1) bs (omega arith)
 
 -- ---- some flaws, as a choice for each of the table
 
@@ -138,7 +140,8 @@ sum-told p h =
 -- ---- what is asked goes by the value
 
 asks-same : (m : Modes) (f h : Flaw) → eqb (flawValue f) (flawValue h) ≡ true → asks m f ≡ asks m h
-asks-same m f h e = ap (λ b. cond (eqb b 1) (m .names) (m .format)) (eqb-true (modeOf f) (modeOf h) (at (eqb (flawValue f) (flawValue h)) (eqb (modeOf f) (modeOf h)) e (every-flaw (alone f) (every-flaw (λ f. all (alone f) flaws) refl f) h)))
+asks-same m f h e = ap (λ b. cond (eqb b 1) (m .names) (m .format)) (eqb-true (modeOf f) (modeOf h)
+    (at (eqb (flawValue f) (flawValue h)) (eqb (modeOf f) (modeOf h)) e (every-flaw (alone f) (every-flaw (λ f. all (alone f) flaws) refl f) h)))
   where
     alone : Flaw → Flaw → Bool
     alone f h = not (eqb (flawValue f) (flawValue h)) || eqb (modeOf f) (modeOf h)
@@ -167,11 +170,13 @@ met-first m p h fs f b i = at (eqb (flawValue f) (flawValue h)) refl
 
 -- ---- the flaws noted
 
-sum-marked : (g : Faults) (p : Flaw → Bool) (h : Flaw) (b : Bool) → g .sum ≡ sumBy p flaws → marked g b (flawValue h) .sum ≡ sumBy (λ f. cond b (eqb (flawValue f) (flawValue h) || p f) (p f)) flaws
+sum-marked : (g : Faults) (p : Flaw → Bool) (h : Flaw) (b : Bool) → g .sum ≡ sumBy p flaws
+    → marked g b (flawValue h) .sum ≡ sumBy (λ f. cond b (eqb (flawValue f) (flawValue h) || p f) (p f)) flaws
 sum-marked g p h true e = ap (λ x. bitOr x (flawValue h)) e ∙ sum-or p h
 sum-marked g p h false e = e
 
-noted-from : (m : Modes) (g : Faults) (p : Flaw → Bool) (fs : List Flaw) → g .sum ≡ sumBy p flaws → noted m g fs .sum ≡ sumBy (λ f. (asks m f && has f fs) || p f) flaws
+noted-from : (m : Modes) (g : Faults) (p : Flaw → Bool) (fs : List Flaw) → g .sum ≡ sumBy p flaws
+    → noted m g fs .sum ≡ sumBy (λ f. (asks m f && has f fs) || p f) flaws
 unfolding noted
 noted-from m g p [] e = e ∙ sum-same p (λ f. (asks m f && false) || p f) (λ f. at (asks m f) (p f)) flaws
   where
@@ -180,11 +185,13 @@ noted-from m g p [] e = e ∙ sum-same p (λ f. (asks m f && false) || p f) (λ 
     at false y = refl
 noted-from m g p (h ∷ fs) e =
     noted-from m (marked g (asks m h) (flawValue h)) (λ f. cond (asks m h) (eqb (flawValue f) (flawValue h) || p f) (p f)) fs (sum-marked g p h (asks m h) e)
-    ∙ sum-same (λ f. (asks m f && has f fs) || cond (asks m h) (eqb (flawValue f) (flawValue h) || p f) (p f)) (λ f. (asks m f && has f (h ∷ fs)) || p f) (λ f. met-first m p h fs f (asks m h) refl) flaws
+    ∙ sum-same (λ f. (asks m f && has f fs) || cond (asks m h) (eqb (flawValue f) (flawValue h) || p f) (p f)) (λ f. (asks m f && has f (h ∷ fs)) || p f)
+    (λ f. met-first m p h fs f (asks m h) refl) flaws
 
 -- each flaw that was met and is asked for, once
 pub noted-sum : (m : Modes) (fs : List Flaw) → noted m nothing fs .sum ≡ sumBy (λ f. asks m f && has f fs) flaws
-noted-sum m fs = noted-from m nothing (λ f. false) fs refl ∙ sum-same (λ f. (asks m f && has f fs) || false) (λ f. asks m f && has f fs) (λ f. at (asks m f && has f fs)) flaws
+noted-sum m fs = noted-from m nothing (λ f. false) fs refl
+    ∙ sum-same (λ f. (asks m f && has f fs) || false) (λ f. asks m f && has f fs) (λ f. at (asks m f && has f fs)) flaws
   where
     at : (x : Bool) → (x || false) ≡ x
     at true = refl

@@ -28,7 +28,8 @@ use Rattle.float.proofs.Laws.{holds-nan}
 module _ (b : ℕ) where
   pub nan-widened : 2139095040 < b % 2147483648 → b / 2 ^ 31 * 2 ^ 63 + 2047 * 2 ^ 52 + b % 2 ^ 23 * 2 ^ 29 ≡ widen b
   unfolding widen
-  nan-widened h = sym (ap (λ (t : Bool). cond t (widenNan b) (toBits binary64 (ofBits binary32 b))) (nanBits-above binary32 b ∙ lt-ltb 2139095040 (b % 2147483648) h))
+  nan-widened h =
+      sym (ap (λ (t : Bool). cond t (widenNan b) (toBits binary64 (ofBits binary32 b))) (nanBits-above binary32 b ∙ lt-ltb 2139095040 (b % 2147483648) h))
 
   module _ (h : b % 2147483648 ≤ 2139095040) where
     no-nan : nanBits binary32 b ≡ false

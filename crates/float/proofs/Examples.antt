@@ -1,4 +1,5 @@
--- Patterns in the other width: signs of zero, the least and the greatest numbers, infinities, NaNs; integers at the ends of their range; and what Float32 holds, and what not.
+-- Patterns in the other width: signs of zero, the least and the greatest numbers, infinities, NaNs; integers at the ends of their range;
+-- and what Float32 holds, and what not.
 use Prim.Native.Nat.{ℕ}
 use mathlib.Core.Path.{_≡_, refl}
 use mathlib.Core.Bool.{true, false}
@@ -12,7 +13,8 @@ abbrev narrows : List ℕ
 narrows = 0x00000000 ∷ 0x80000000 ∷ 0x00000001 ∷ 0x007fffff ∷ 0x00800000 ∷ 0x3f800000 ∷ 0xc2280000 ∷ 0x7f7fffff ∷ 0x7f800000 ∷ 0xff800000 ∷ []
 
 abbrev wides : List ℕ
-wides = 0x0000000000000000 ∷ 0x8000000000000000 ∷ 0x36a0000000000000 ∷ 0x380fffffc0000000 ∷ 0x3810000000000000 ∷ 0x3ff0000000000000 ∷ 0xc045000000000000 ∷ 0x47efffffe0000000 ∷ 0x7ff0000000000000 ∷ 0xfff0000000000000 ∷ []
+wides = 0x0000000000000000 ∷ 0x8000000000000000 ∷ 0x36a0000000000000 ∷ 0x380fffffc0000000 ∷ 0x3810000000000000 ∷ 0x3ff0000000000000 ∷ 0xc045000000000000
+    ∷ 0x47efffffe0000000 ∷ 0x7ff0000000000000 ∷ 0xfff0000000000000 ∷ []
 
 pub widened : map widen narrows ≡ wides
 unfolding widen ofBits toBits nanBits
@@ -22,11 +24,13 @@ pub narrowed : map narrow wides ≡ narrows
 unfolding narrow ofBits toBits
 narrowed = refl
 
-pub nans-widened : map widen (0x7fc00000 ∷ 0xffc00000 ∷ 0x7f800001 ∷ 0xff812345 ∷ []) ≡ 0x7ff8000000000000 ∷ 0xfff8000000000000 ∷ 0x7ff0000020000000 ∷ 0xfff02468a0000000 ∷ []
+pub nans-widened : map widen (0x7fc00000 ∷ 0xffc00000 ∷ 0x7f800001 ∷ 0xff812345 ∷ []) ≡ 0x7ff8000000000000 ∷ 0xfff8000000000000 ∷ 0x7ff0000020000000
+    ∷ 0xfff02468a0000000 ∷ []
 unfolding widen ofBits toBits nanBits
 nans-widened = refl
 
-pub integers : map ofInteger (pos 0 ∷ pos 1 ∷ negsuc 0 ∷ pos 0x20000000000000 ∷ negsuc 0x1fffffffffffff ∷ []) ≡ 0 ∷ 0x3ff0000000000000 ∷ 0xbff0000000000000 ∷ 0x4340000000000000 ∷ 0xc340000000000000 ∷ []
+pub integers : map ofInteger (pos 0 ∷ pos 1 ∷ negsuc 0 ∷ pos 0x20000000000000 ∷ negsuc 0x1fffffffffffff ∷ []) ≡ 0 ∷ 0x3ff0000000000000 ∷ 0xbff0000000000000
+    ∷ 0x4340000000000000 ∷ 0xc340000000000000 ∷ []
 unfolding ofInteger ofInt toBits
 integers = refl
 

@@ -66,7 +66,8 @@ module _ (l : ℕ) (x : ℤ) (j : ℕ) (at : Place l x j) where
   balance : (m : ℕ) → m * up x * 2 ^ l ≡ m * 2 ^ j * down x
   balance m =
       mul-assoc m (up x) (2 ^ l)
-      ∙ ap (λ (n : ℕ). m * n) (ap (λ (n : ℕ). n * 2 ^ l) (at .ups) ∙ sym (pow-add 2 (j - l) l) ∙ ap (λ (n : ℕ). 2 ^ n) same ∙ pow-add 2 j (l - j) ∙ ap (λ (n : ℕ). 2 ^ j * n) (sym (at .downs)))
+      ∙ ap (λ (n : ℕ). m * n) (ap (λ (n : ℕ). n * 2 ^ l) (at .ups) ∙ sym (pow-add 2 (j - l) l) ∙ ap (λ (n : ℕ). 2 ^ n) same ∙ pow-add 2 j (l - j)
+      ∙ ap (λ (n : ℕ). 2 ^ j * n) (sym (at .downs)))
       ∙ sym (mul-assoc m (2 ^ j) (down x))
     where
       same : j - l + l ≡ j + (l - j)
@@ -91,7 +92,9 @@ module _ (l : ℕ) (x : ℤ) (j : ℕ) (at : Place l x j) where
   sides b = mul-right-comm (2 ^ b) (down x) (2 ^ l) ∙ ap (λ (n : ℕ). n * down x) (sym (pow-add 2 b l))
 
   pub greatest : (m b : ℕ) → m * up x < 2 ^ b * down x → m * 2 ^ j < 2 ^ (b + l)
-  greatest m b h = lt-of-mul-lt-mul-right (down x) (subst (λ (n : ℕ). n < 2 ^ (b + l) * down x) (balance m) (subst (λ (n : ℕ). m * up x * 2 ^ l < n) (sides b) (mul-lt-mul-of-pos-right h (pow-pos l))))
+  greatest m b h = lt-of-mul-lt-mul-right (down x)
+      (subst (λ (n : ℕ). n < 2 ^ (b + l) * down x) (balance m) (subst (λ (n : ℕ). m * up x * 2 ^ l < n) (sides b) (mul-lt-mul-of-pos-right h (pow-pos l))))
 
   pub bounded-of : (m b : ℕ) → m * 2 ^ j < 2 ^ (b + l) → m * up x < 2 ^ b * down x
-  bounded-of m b h = lt-of-mul-lt-mul-right (2 ^ l) (subst (λ (n : ℕ). n < 2 ^ b * down x * 2 ^ l) (sym (balance m)) (subst (λ (n : ℕ). m * 2 ^ j * down x < n) (sym (sides b)) (mul-lt-mul-of-pos-right h (down-pos x))))
+  bounded-of m b h = lt-of-mul-lt-mul-right (2 ^ l) (subst (λ (n : ℕ). n < 2 ^ b * down x * 2 ^ l) (sym (balance m))
+      (subst (λ (n : ℕ). m * 2 ^ j * down x < n) (sym (sides b)) (mul-lt-mul-of-pos-right h (down-pos x))))

@@ -30,7 +30,8 @@ or-r false b t = t
 
 -- ---- a number that is p * 2 ^ k of binary64's smallest values
 
-narrower : (v : Float) (p k r : ℕ) → T (fits binary64 v) → Equals v (p * 2 ^ k) (2 ^ 1074) → p < 2 ^ 53 → p % 2 ^ r ≡ 0 → 29 ≤ r → 925 ≤ r + k → k ≤ 1149 → T (fits binary32 v)
+narrower : (v : Float) (p k r : ℕ) → T (fits binary64 v) → Equals v (p * 2 ^ k) (2 ^ 1074) → p < 2 ^ 53 → p % 2 ^ r ≡ 0 → 29 ≤ r → 925 ≤ r + k
+    → k ≤ 1149 → T (fits binary32 v)
 narrower nan p k r t e h z a b c = absurd e
 narrower (inf s) p k r t e h z a b c = absurd e
 narrower (fin s zero x) p k r t e h z a b c = unfold fits in t
@@ -71,7 +72,8 @@ record Spread (p k m j : ℕ) : Type 0 where
 spread : (v : Float) (p k : ℕ) → T (fits binary32 v) → Equals v (p * 2 ^ k) (2 ^ 1074) → 0 < p → (m : ℕ) × (j : ℕ) × Spread p k m j
 spread nan p k t e h = absurd e
 spread (inf s) p k t e h = absurd e
-spread (fin s zero x) p k t e h = absurd (lt-irrefl 0 (subst (λ (n : ℕ). 0 < n) (sym e ∙ ap (λ (n : ℕ). n * 2 ^ 1074) (zero-mul (up x)) ∙ zero-mul (2 ^ 1074)) (mul-pos (mul-pos h (pow-pos k)) (down-pos x))))
+spread (fin s zero x) p k t e h = absurd (lt-irrefl 0
+    (subst (λ (n : ℕ). 0 < n) (sym e ∙ ap (λ (n : ℕ). n * 2 ^ 1074) (zero-mul (up x)) ∙ zero-mul (2 ^ 1074)) (mul-pos (mul-pos h (pow-pos k)) (down-pos x))))
 spread (fin s (suc m) x) p k t e h =
     let w : Fit binary32 (suc m) x = fit-of binary32 s m x t in
     let l = place 1074 x (le-trans (w .fine) (lit≤ tt)) in
@@ -125,7 +127,8 @@ inside-fits s k f h t i =
     let a : Bool = leb 874 (suc k) in
     let b : Bool = leb (suc k) 1150 in
     let c : Bool = eqb ((2 ^ 52 + f) % 2 ^ spare (suc k)) 0 in
-    narrower (number s k f) (2 ^ 52 + f) k (spare (suc k)) t (odd-val 53 s (2 ^ 52 + f) k 1074) (sum-lt f h) (eqb→eq ((2 ^ 52 + f) % 2 ^ spare (suc k)) 0 (and-r (a && b) c i)) (spare-least k) (spare-from k)
+    narrower (number s k f) (2 ^ 52 + f) k (spare (suc k)) t (odd-val 53 s (2 ^ 52 + f) k 1074) (sum-lt f h)
+    (eqb→eq ((2 ^ 52 + f) % 2 ^ spare (suc k)) 0 (and-r (a && b) c i)) (spare-least k) (spare-from k)
     (le-of-suc-le-suc (leb→le (suc k) 1150 (and-r a b (and-l (a && b) c i))))
 
 fits-inside : (s : Bool) (k f : ℕ) → f < 2 ^ 52 → T (fits binary32 (number s k f)) → T (inside (suc k) f)
@@ -139,7 +142,8 @@ fits-inside s k f h t =
     (and-i (leb 874 (suc k)) (leb (suc k) 1150)
     (le→leb 874 (suc k) (low-end k (over m j p k (q .odd-one) (q .same) 925 53 (q .from) (sum-lt f h))))
     (le→leb (suc k) 1150 (high-end k (under m j p k (q .odd-one) (q .same) 1202 52 (q .to) (le-add-right (2 ^ 52) f)))))
-    (eq→eqb (divides m j p k (q .odd-one) (q .same) (spare (suc k)) (spare-most k j (long m j p k (q .odd-one) (q .same) 24 52 (q .short) (le-add-right (2 ^ 52) f)) (q .from))))
+    (eq→eqb (divides m j p k (q .odd-one) (q .same) (spare (suc k))
+    (spare-most k j (long m j p k (q .odd-one) (q .same) 24 52 (q .short) (le-add-right (2 ^ 52) f)) (q .from))))
   where
     low-end : (k : ℕ) → 925 < 53 + k → 874 ≤ suc k
     low-end k h = omega arith
@@ -186,9 +190,11 @@ fitting s zero (suc f) h n t =
     no h = omega arith
 fitting s (suc k) f h n t = go (eqb (suc k) 2047) n t
   where
-    go : (b : Bool) → isNan (cond b (cond (eqb f 0) (inf s) nan) (number s k f)) ≡ false → T (fits binary32 (cond b (cond (eqb f 0) (inf s) nan) (number s k f)))
+    go : (b : Bool) → isNan (cond b (cond (eqb f 0) (inf s) nan) (number s k f)) ≡ false
+        → T (fits binary32 (cond b (cond (eqb f 0) (inf s) nan) (number s k f)))
         → T ((eqb f 0 && (eqb (suc k) 0 || b)) || inside (suc k) f)
-    go true n t = or-l (eqb f 0 && (eqb (suc k) 0 || true)) (inside (suc k) f) (and-i (eqb f 0) (eqb (suc k) 0 || true) (no-nan s (eqb f 0) n) (or-r (eqb (suc k) 0) true tt))
+    go true n t = or-l (eqb f 0 && (eqb (suc k) 0 || true)) (inside (suc k) f)
+        (and-i (eqb f 0) (eqb (suc k) 0 || true) (no-nan s (eqb f 0) n) (or-r (eqb (suc k) 0) true tt))
     go false n t = or-r (eqb f 0 && (eqb (suc k) 0 || false)) (inside (suc k) f) (fits-inside s k f h t)
 
 -- ---- the rule, from a pattern
@@ -214,10 +220,12 @@ pub held-fits : (b : ℕ) → holds b ≡ true → T (fits binary32 (ofBits bina
 unfolding holds
 held-fits b h =
     subst (λ (v : Float). T (fits binary32 v)) (sym (by-fields b))
-    (held (leb (top binary64) b) (exponent b) (fraction b) (fraction-lt b) (subst (λ (v : Float). T (fits binary64 v)) (by-fields b) (ofBits-fits binary64 b)) (to-T (holdsAt (exponent b) (fraction b)) h))
+    (held (leb (top binary64) b) (exponent b) (fraction b) (fraction-lt b) (subst (λ (v : Float). T (fits binary64 v)) (by-fields b) (ofBits-fits binary64 b))
+    (to-T (holdsAt (exponent b) (fraction b)) h))
 
 pub fits-held : (b : ℕ) → isNan64 b ≡ false → T (fits binary32 (ofBits binary64 b)) → holds b ≡ true
 unfolding holds
 fits-held b n t =
     is-true (holdsAt (exponent b) (fraction b))
-    (fitting (leb (top binary64) b) (exponent b) (fraction b) (fraction-lt b) (ap isNan (sym (by-fields b)) ∙ sym (nanBits-is binary64 b) ∙ n) (subst (λ (v : Float). T (fits binary32 v)) (by-fields b) t))
+    (fitting (leb (top binary64) b) (exponent b) (fraction b) (fraction-lt b) (ap isNan (sym (by-fields b)) ∙ sym (nanBits-is binary64 b) ∙ n)
+    (subst (λ (v : Float). T (fits binary32 v)) (by-fields b) t))

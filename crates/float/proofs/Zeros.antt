@@ -108,8 +108,13 @@ module _ (e f : ℕ) where
       whole z = sym (low e 52 l) ∙ ap (λ (x : ℕ). x % 2 ^ 52) z
 
       go : (1 ≤ f) ⊎ (f < 1) → (eqb twice 0 || eqb twice (2047 * 2 ^ 53)) ≡ (eqb f 0 && (eqb e 0 || eqb e 2047))
-      go (inl h) = rw (ne-eqb twice 0 (λ z. omega arith), ne-eqb twice (2047 * 2 ^ 53) (λ z. omega (arith, whole (omega arith))), ne-eqb f 0 (λ z. omega arith))
-      go (inr h) = rw (eq-eqb f 0 (omega arith), same-test twice 0 e 0 (λ z. omega arith) (λ z. omega arith), same-test twice (2047 * 2 ^ 53) e 2047 (λ z. omega arith) (λ z. omega arith))
+      go (inl h) =
+          rw (ne-eqb twice 0 (λ z. omega arith), ne-eqb twice (2047 * 2 ^ 53) (λ z. omega (arith, whole (omega arith))), ne-eqb f 0 (λ z. omega arith))
+      go (inr h) = rw (
+        eq-eqb f 0 (omega arith),
+        same-test twice 0 e 0 (λ z. omega arith) (λ z. omega arith),
+        same-test twice (2047 * 2 ^ 53) e 2047 (λ z. omega arith) (λ z. omega arith),
+      )
 
 -- ---- of a pattern
 module _ (b : ℕ) where
@@ -138,6 +143,7 @@ module _ (b : ℕ) where
   pub sum-fits : Fits w64 (zeros + exponent b)
   sum-fits = record { fits = omega (arith, at-most) }
 
-  pub by-zeros : ((eqb (b % 2 ^ 63 * 2) 0 || eqb (b % 2 ^ 63 * 2) (2047 * 2 ^ 53)) || (leb 926 (zeros + exponent b) && leb 29 zeros && leb (exponent b) 1150)) ≡ holds b
+  pub by-zeros : ((eqb (b % 2 ^ 63 * 2) 0 || eqb (b % 2 ^ 63 * 2) (2047 * 2 ^ 53)) || (leb 926 (zeros + exponent b) && leb 29 zeros && leb (exponent b) 1150))
+      ≡ holds b
   unfolding holds
   by-zeros = rw (number (exponent b) zeros at-most, mod-pow-add b 11 52, ended (exponent b) (fraction b) (omega arith), ← divided (spare (exponent b)))

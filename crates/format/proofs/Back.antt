@@ -92,7 +92,8 @@ fixed-case {X} n s {b} {r} w h c = go (ltb (length s) n) refl h
 
 -- ---- a size, and as many bytes
 
-pub sized-rt : {A : Type 0} (p : List ℕ → Out A) (b : List ℕ) (a : A) (r : List ℕ) → length b < 2 ^ 64 → p b ≡ got a [] [] → sized p (withSize b ++ r) ≡ got a [] r
+pub sized-rt : {A : Type 0} (p : List ℕ → Out A) (b : List ℕ) (a : A) (r : List ℕ) → length b < 2 ^ 64 → p b ≡ got a [] []
+    → sized p (withSize b ++ r) ≡ got a [] r
 sized-rt p b a r l h =
     rw (
       append-assoc (encoded (length b)) b r,
@@ -107,12 +108,14 @@ pub sized-case : {A X : Type 0} (p : List ℕ → Out A) {s : List ℕ} {a : A} 
     → ((b : List ℕ) → p b ≡ got a [] [] → s ≡ withSize b ++ r → Bytes b → length b < 2 ^ 64 → X) → X
 sized-case {X} p {s} {a} {r} w h c = bind-case (readVarUInt s) _ h λ n q e k. number-case s w e λ es l wq. go n q es l wq (ltb (length q) n) refl k
   where
-    go : (n : ℕ) (q : List ℕ) → s ≡ encoded n ++ q → n < 2 ^ 64 → Bytes q → (x : Bool) → ltb (length q) n ≡ x → cond x (fault Early) (whole (p (take n q)) (drop n q)) ≡ got a [] r → X
+    go : (n : ℕ) (q : List ℕ) → s ≡ encoded n ++ q → n < 2 ^ 64 → Bytes q → (x : Bool) → ltb (length q) n ≡ x
+        → cond x (fault Early) (whole (p (take n q)) (drop n q)) ≡ got a [] r → X
     go n q es l wq true e k = never k
     go n q es l wq false e k =
         let u = whole-case (p (take n q)) (drop n q) k in
         let m : length (take n q) ≡ n = rw (length-take n q) (omega (arith, ltb-false)) in
-        c (take n q) (u .0) (rw (m, append-assoc (encoded n) (take n q) r) (cc (take-append-drop n q))) (bytes-left q (take n q) (drop n q) wq (sym (take-append-drop n q))) (omega arith)
+        c (take n q) (u .0) (rw (m, append-assoc (encoded n) (take n q) r) (cc (take-append-drop n q)))
+        (bytes-left q (take n q) (drop n q) wq (sym (take-append-drop n q))) (omega arith)
 
 -- ---- a reader p of what enc writes, out a for a: both ways
 
@@ -158,7 +161,11 @@ module _ {A X : Type 0} (p : List ℕ → Out X) (out : A → X) (enc : A → Li
   fill-rt (x ∷ xs) zero w o f l = absurd (let m : length (enc x) + length (concat enc xs) ≤ 0 = rw length-append at f in omega (arith, o .0))
   fill-rt (x ∷ xs) (suc n) w o f l =
       let a = length-append (enc x) (concat enc xs) in
-      rw (fill-more n (enc x ++ concat enc xs) (omega (arith, o .0)), g .rt x (concat enc xs) (w .0) (omega arith), fill-rt xs n (w .1) (o .1) (omega (arith, o .0)) (omega arith))
+      rw (
+        fill-more n (enc x ++ concat enc xs) (omega (arith, o .0)),
+        g .rt x (concat enc xs) (w .0) (omega arith),
+        fill-rt xs n (w .1) (o .1) (omega (arith, o .0)) (omega arith),
+      )
 
   pub fill-inv : (n : ℕ) (s : List ℕ) (ys : List X) (r : List ℕ) → Bytes s → fill p n s ≡ got ys [] r
       → (xs : List A) × (ys ≡ map out xs) × (s ≡ concat enc xs) × (r ≡ []) × All W xs

@@ -19,8 +19,11 @@ use Rattle.format.specs.declared.Kind.{Kind}
 use Rattle.format.specs.declared.Mark.{Mark}
 use Rattle.format.specs.declared.Mark.the-variants.{OfTop, OfField, OfItem, SharedByFields, SharedByItems}
 use Rattle.format.specs.Kinds.{id, flags, typeByte, same, all, isBare, isUniform, isUniformArray}
-use Rattle.format.specs.Tree.{Float, number, nan32, nan64, Leaf, null, bool, integer, float, binary, string, objectAttachment, binaryAttachment, hash, uuid, objectId, dateTime, timeSpan, customById, customByName, Node, atom, array, object, Tree, NameWithin, LeafWithin, NodeWithin, Within}
-use Rattle.format.specs.Encoding.{withSize, concat, floatPayload, leafPayload, sharedByte, itemKinds, fieldKinds, items, fields, nodePayload, kindOf, payloadOf, encoding}
+use Rattle.format.specs.Tree.{Float, number, nan32, nan64, Leaf, null, bool, integer, float, binary, string, objectAttachment, binaryAttachment, hash}
+use Rattle.format.specs.Tree.{uuid, objectId, dateTime, timeSpan, customById, customByName, Node, atom, array, object, Tree, NameWithin, LeafWithin}
+use Rattle.format.specs.Tree.{NodeWithin, Within}
+use Rattle.format.specs.Encoding.{withSize, concat, floatPayload, leafPayload, sharedByte, itemKinds, fieldKinds, items, fields, nodePayload, kindOf}
+use Rattle.format.specs.Encoding.{payloadOf, encoding}
 use Rattle.format.proofs.Lists.{all-of, all-pure, all-both, length-concat, and-true}
 use Rattle.format.proofs.KindLaws.{all-same, id-range}
 use Rattle.format.proofs.TextLaws.{inside-lt}
@@ -47,7 +50,8 @@ sized-bytes s w l = both (encoded (length s)) s (encoded-bytes (length s) l) w
 parts : (n : ℕ) (a b : List ℕ) → length (a ++ b) < n → (length a < n) × (length b < n)
 parts n a b l = let m : length a + length b < n = rw length-append at l in (omega arith, omega arith)
 
-concat-bytes : {A : Type 0} (f : A → List ℕ) (W : A → Type 0) → ((a : A) → W a → length (f a) < 2 ^ 64 → Bytes (f a)) → (xs : List A) → All W xs → length (concat f xs) < 2 ^ 64 → Bytes (concat f xs)
+concat-bytes : {A : Type 0} (f : A → List ℕ) (W : A → Type 0) → ((a : A) → W a → length (f a) < 2 ^ 64 → Bytes (f a)) → (xs : List A) → All W xs
+    → length (concat f xs) < 2 ^ 64 → Bytes (concat f xs)
 concat-bytes f W g [] w l = tt
 concat-bytes f W g (x ∷ xs) w l =
     let m = parts (2 ^ 64) (f x) (concat f xs) l in
@@ -95,7 +99,8 @@ item-count kind pay W some true (x ∷ xs) e w =
     let b : isBare k ≡ false = not-true (isBare k) (i .0) in
     let q : All (λ y. kind y ≡ k) (x ∷ xs) = (refl, all-same kind k xs (i .1)) in
     let n : length (x ∷ xs) ≤ length (concat pay (x ∷ xs)) =
-    length-concat pay (x ∷ xs) (all-of (λ y. (kind y ≡ k) × W y) (λ y. 1 ≤ length (pay y)) (λ y h. some y (h .1) (rw (h .0) b)) (x ∷ xs) (all-both _ _ (x ∷ xs) q w)) in
+    length-concat pay (x ∷ xs)
+    (all-of (λ y. (kind y ≡ k) × W y) (λ y. 1 ≤ length (pay y)) (λ y h. some y (h .1) (rw (h .0) b)) (x ∷ xs) (all-both _ _ (x ∷ xs) q w)) in
     omega arith
 
 module _ {A : Type 0} (kind : A → Kind) (pay : A → List ℕ) (W : A → Type 0) (some : (a : A) → W a → isBare (kind a) ≡ false → 1 ≤ length (pay a))
@@ -115,13 +120,16 @@ module _ {A : Type 0} (kind : A → Kind) (pay : A → List ℕ) (W : A → Type
       let m = parts (2 ^ 64) (withSize (x .0)) (pay (x .1)) l in
       both (withSize (x .0)) (pay (x .1)) (sized-bytes (x .0) (w .0 .0 .0) (inside-lt (x .0) (m .0))) (g (x .1) (w .1) (m .1))
 
-  fields-bytes : (u : Bool) (xs : List (List ℕ × A)) → All (λ x. NameWithin (x .0) × W (x .1)) xs → length (fields u kind pay xs) < 2 ^ 64 → Bytes (fields u kind pay xs)
+  fields-bytes : (u : Bool) (xs : List (List ℕ × A)) → All (λ x. NameWithin (x .0) × W (x .1)) xs → length (fields u kind pay xs) < 2 ^ 64
+      → Bytes (fields u kind pay xs)
   fields-bytes true xs w l =
       let c = concat (λ x. withSize (x .0) ++ pay (x .1)) xs in
       let m = parts (2 ^ 64) (sharedByte SharedByFields (fieldKinds kind xs)) c l in
-      both (sharedByte SharedByFields (fieldKinds kind xs)) c (shared-bytes SharedByFields (fieldKinds kind xs)) (concat-bytes (λ x. withSize (x .0) ++ pay (x .1)) _ named-bytes xs w (m .1))
+      both (sharedByte SharedByFields (fieldKinds kind xs)) c (shared-bytes SharedByFields (fieldKinds kind xs))
+      (concat-bytes (λ x. withSize (x .0) ++ pay (x .1)) _ named-bytes xs w (m .1))
   fields-bytes false xs w l =
-      concat-bytes (λ x. typeByte OfField (kind (x .1)) ∷ (withSize (x .0) ++ pay (x .1))) _ (λ x v m. (type-lt OfField (kind (x .1)), named-bytes x v (omega arith))) xs w l
+      concat-bytes (λ x. typeByte OfField (kind (x .1)) ∷ (withSize (x .0) ++ pay (x .1))) _
+      (λ x v m. (type-lt OfField (kind (x .1)), named-bytes x v (omega arith))) xs w l
 
   node-bytes : (t : Node A) → NodeWithin W t → length (nodePayload kind pay t) < 2 ^ 64 → Bytes (nodePayload kind pay t)
   node-bytes (atom v) w l = leaf-bytes v w l

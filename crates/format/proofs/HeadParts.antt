@@ -23,11 +23,14 @@ use Rattle.format.specs.declared.Flaw.the-variants.{Low, Wide, NotUtf8, 
 use Rattle.format.specs.Parse.{Out, got, bind, raise, make, readVarUInt, fixed, sized, rest}
 use Rattle.format.specs.Names.{isEmpty, readText, readName}
 use Rattle.format.specs.Tree.{Leaf, integer, float, binary, string}
-use Rattle.format.specs.Payload.{Shape, nothing, bytes, text, positive, negative, wide, behind, shapeOf, payloadIn, kindFound, readType, front, float64, readNegative, readFloat64, readCustomById, readCustomByName, Payload, leaf, fields, sharedFields, items, sharedItems, payload, headBy, Head, value, fieldsIn, itemsIn, readSharedFields, readSharedItems, readFields, readItems, head}
+use Rattle.format.specs.Payload.{Shape, nothing, bytes, text, positive, negative, wide, behind, shapeOf, payloadIn, kindFound, readType, front, float64}
+use Rattle.format.specs.Payload.{readNegative, readFloat64, readCustomById, readCustomByName, Payload, leaf, fields, sharedFields, items, sharedItems}
+use Rattle.format.specs.Payload.{payload, headBy, Head, value, fieldsIn, itemsIn, readSharedFields, readSharedItems, readFields, readItems, head}
 use Rattle.format.specs.declared.Inner.the-variants as I
 use Rattle.format.proofs.Back.{never}
 use Rattle.format.proofs.SharedKind.{shared-fields-got, shared-items-got}
-use Rattle.format.proofs.Local.{bind-got, raise-got, Local, local-bind, local-got, local-raise, local-make, local-number, local-fixed, local-sized, sized-got}
+use Rattle.format.proofs.Local.{bind-got, raise-got, Local, local-bind, local-got, local-raise, local-make, local-number, local-fixed, local-sized}
+use Rattle.format.proofs.Local.{sized-got}
 
 -- ---- local
 
@@ -38,10 +41,12 @@ local-name : Local readName
 local-name = local-bind readText (λ n r. raise (isEmpty n) Blank (got n [] r)) local-text (λ n. local-raise (isEmpty n) Blank n)
 
 local-negative : Local readNegative
-local-negative = local-bind readVarUInt (λ m r. raise (not (ltb m (2 ^ 63))) Low (got (integer (negsuc m)) [] r)) local-number (λ m. local-raise (not (ltb m (2 ^ 63))) Low (integer (negsuc m)))
+local-negative = local-bind readVarUInt (λ m r. raise (not (ltb m (2 ^ 63))) Low (got (integer (negsuc m)) [] r)) local-number
+    (λ m. local-raise (not (ltb m (2 ^ 63))) Low (integer (negsuc m)))
 
 local-float64 : Local readFloat64
-local-float64 = local-bind (fixed 8) (λ b r. raise (holds (fromBytes b)) Wide (got (float (float64 (fromBytes b))) [] r)) (local-fixed 8) (λ b. local-raise (holds (fromBytes b)) Wide (float (float64 (fromBytes b))))
+local-float64 = local-bind (fixed 8) (λ b r. raise (holds (fromBytes b)) Wide (got (float (float64 (fromBytes b))) [] r)) (local-fixed 8)
+    (λ b. local-raise (holds (fromBytes b)) Wide (float (float64 (fromBytes b))))
 
 local-shape : (f : Shape) → Local (headBy (payloadIn f))
 local-shape (nothing v) = local-make value (λ s. got v [] s) (local-got v)
@@ -92,7 +97,8 @@ Taken Item s q = length q < length s
 Taken (SharedField k) s q = length q < length s
 Taken (SharedItem k) s q = s ≡ q
 
-plain-takes : (m : Mark) (s : List ℕ) {x : List ℕ × Kind} {fs : List Flaw} {q : List ℕ} → (bind (readType m s) λ k r. got ([], k) [] r) ≡ got x fs q → Fronted s x q × (length q < length s)
+plain-takes : (m : Mark) (s : List ℕ) {x : List ℕ × Kind} {fs : List Flaw} {q : List ℕ} → (bind (readType m s) λ k r. got ([], k) [] r) ≡ got x fs q
+    → Fronted s x q × (length q < length s)
 plain-takes m s {x} {fs} {q} h = bind-got (readType m s) _ h λ k es r gs e i _.
     let j = type-ends m s e in
     let z : x ≡ ([], k) = cc in
@@ -149,7 +155,8 @@ ended s pre b r (itemsIn f n c) e i =
     let z : b ≡ i .0 .0 ++ c = rw (← nil c) (i .0 .1) in
     ((pre ++ i .0 .0, rw append-assoc (rw (z, append-assoc (i .0 .0) c r) at e)), i .1)
 
-body-sized : (p : List ℕ → Out Head) → ((b : List ℕ) (h : Head) (gs : List Flaw) → p b ≡ got h gs [] → Body b h []) → (s : List ℕ) {h : Head} {fs : List Flaw} {r : List ℕ} → sized p s ≡ got h fs r → Body s h r
+body-sized : (p : List ℕ → Out Head) → ((b : List ℕ) (h : Head) (gs : List Flaw) → p b ≡ got h gs [] → Body b h [])
+    → (s : List ℕ) {h : Head} {fs : List Flaw} {r : List ℕ} → sized p s ≡ got h fs r → Body s h r
 body-sized p f s {h} {fs} {r} e = sized-got p s e λ pre b gs i es l. ended s pre b r h es (f b h gs i)
 
 fields-body : (b : List ℕ) (h : Head) (gs : List Flaw) → readFields b ≡ got h gs [] → Body b h []

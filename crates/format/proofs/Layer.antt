@@ -35,7 +35,8 @@ module _ {A X : Type 0} (p : Reader X) (kind : A → Kind) (lay : A → X) (pay 
   name-lt (SharedField h) k n w l = inside-lt n l
   name-lt (SharedItem h) k n w l = rw (w .1) (omega arith)
 
-  field-rt : (f : Form) (x : Named (Node A)) (r : List ℕ) → FieldWithin f (nodeKind kind) (NodeWithin W) x → length (fieldBytes f (nodeKind kind) (nodePayload kind pay) x) < 2 ^ 64
+  field-rt : (f : Form) (x : Named (Node A)) (r : List ℕ) → FieldWithin f (nodeKind kind) (NodeWithin W) x
+      → length (fieldBytes f (nodeKind kind) (nodePayload kind pay) x) < 2 ^ 64
       → readField p f (fieldBytes f (nodeKind kind) (nodePayload kind pay) x ++ r) ≡ got (read-as (nodeKind kind) (mapNode (stand kind lay)) x) [] r
   field-rt f x r w l =
       let k = nodeKind kind (x .1) in
@@ -49,7 +50,8 @@ module _ {A X : Type 0} (p : Reader X) (kind : A → Kind) (lay : A → X) (pay 
       )
 
   field-inv : (f : Form) (s : List ℕ) (x : Named (Standing (Node (Standing X)))) (r : List ℕ) → Bytes s → readField p f s ≡ got x [] r
-      → (a : Named (Node A)) × (x ≡ read-as (nodeKind kind) (mapNode (stand kind lay)) a) × (s ≡ fieldBytes f (nodeKind kind) (nodePayload kind pay) a ++ r) × FieldWithin f (nodeKind kind) (NodeWithin W) a
+      → (a : Named (Node A)) × (x ≡ read-as (nodeKind kind) (mapNode (stand kind lay)) a) × (s ≡ fieldBytes f (nodeKind kind) (nodePayload kind pay) a ++ r)
+      × FieldWithin f (nodeKind kind) (NodeWithin W) a
   field-inv f s x r w h = bind-case (front f s) _ h λ y q e h₁. make-case _ (readNode p (y .1) q) h₁ λ t e₁ z.
       let i = front-inv f s y q w e in
       let j = node-inv p kind lay pay W g (y .1) q t r (i .2) e₁ in

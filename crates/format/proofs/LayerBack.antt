@@ -16,7 +16,8 @@ use Rattle.format.specs.Parse.{Out, got, bind, raise, make, readVarUInt,
 use Rattle.format.specs.Names.{twins}
 use Rattle.format.specs.Tree.{Leaf, Node, atom, array, object, mapNode, NameWithin, NodeWithin}
 use Rattle.format.specs.Encoding.{concat, fieldKinds, nodeKind, items, fields, nodePayload}
-use Rattle.format.specs.Payload.{payload, Head, value, fieldsIn, itemsIn, readSharedFields, readSharedItems, readFields, readItems, head, Payload, leaf, headBy}
+use Rattle.format.specs.Payload.{payload, Head, value, fieldsIn, itemsIn, readSharedFields, readSharedItems, readFields, readItems, head, Payload, leaf}
+use Rattle.format.specs.Payload.{headBy}
 use Rattle.format.specs.Reader.{Standing, Named, Reader, kindsIn, namesIn, contents, readNode}
 use Rattle.format.proofs.Lists.{append-nil, all-of}
 use Rattle.format.proofs.Back.{bind-case, make-case, raise-off, whole-case, number-case, sized-case, many-case, fill-inv}
@@ -24,14 +25,17 @@ use Rattle.format.proofs.KindLaws.{same-all}
 use Rattle.format.specs.Payload as P
 use Rattle.format.proofs.SharedKind.{shared-fields-got, shared-items-got}
 use Rattle.format.proofs.LeavesBack.{OnlyBy, OnlyLeaves, leaf-only}
-use Rattle.format.proofs.LayerFields.{FieldWithin, Fine, fieldBytes, item-good, items-stand, kinds-of-fields, kinds-of-items, nameless, names-of-fields, read-as, shared-item-good, stand}
+use Rattle.format.proofs.LayerFields.{FieldWithin, Fine, fieldBytes, item-good, items-stand, kinds-of-fields, kinds-of-items, nameless, names-of-fields}
+use Rattle.format.proofs.LayerFields.{read-as, shared-item-good, stand}
 
 module _ {A X : Type 0} (p : Reader X) (kind : A → Kind) (lay : A → X) (pay : A → List ℕ) (W : A → Type 0) (g : Fine p kind lay pay W) where
   abbrev ItemsBack : Bool → List ℕ → Node (Standing X) → Type 0
-  ItemsBack u b t = (xs : List A) × (t ≡ array (map (stand kind lay) xs)) × (b ≡ encoded (length xs) ++ items u kind pay xs) × (isUniformArray (map kind xs) ≡ u) × All W xs
+  ItemsBack u b t =
+      (xs : List A) × (t ≡ array (map (stand kind lay) xs)) × (b ≡ encoded (length xs) ++ items u kind pay xs) × (isUniformArray (map kind xs) ≡ u) × All W xs
 
   abbrev FieldsBack : Bool → List ℕ → Node (Standing X) → Type 0
-  FieldsBack u b t = (xs : List (Named A)) × (t ≡ object (map (read-as kind lay) xs)) × (b ≡ fields u kind pay xs) × (isUniform (fieldKinds kind xs) ≡ u) × NodeWithin W (object xs)
+  FieldsBack u b t = (xs : List (Named A)) × (t ≡ object (map (read-as kind lay) xs)) × (b ≡ fields u kind pay xs) × (isUniform (fieldKinds kind xs) ≡ u)
+      × NodeWithin W (object xs)
 
   items-inv : (b : List ℕ) (h : Head) (t : Node (Standing X)) → Bytes b → readItems b ≡ got h [] [] → contents p h ≡ got t [] [] → ItemsBack false b t
   items-inv b h t w e c =
@@ -49,7 +53,8 @@ module _ {A X : Type 0} (p : Reader X) (kind : A → Kind) (lay : A → X) (pay 
             (λ a v. v .1) xs ws,
       )
 
-  shared-items-inv : (b : List ℕ) (h : Head) (t : Node (Standing X)) → Bytes b → bind (readVarUInt b) readSharedItems ≡ got h [] [] → contents p h ≡ got t [] [] → ItemsBack true b t
+  shared-items-inv : (b : List ℕ) (h : Head) (t : Node (Standing X)) → Bytes b → bind (readVarUInt b) readSharedItems ≡ got h [] []
+      → contents p h ≡ got t [] [] → ItemsBack true b t
   unfolding isUniformArray
   shared-items-inv b h t w e c = bind-case (readVarUInt b) _ e λ m q i j. number-case b w i λ v _ wq. shared-items-got m q j λ k n s em eq full eh.
       let v′ : b ≡ encoded (suc n) ++ (typeByte SharedByItems k ∷ s) = rw (em, eq) at v in
@@ -60,7 +65,8 @@ module _ {A X : Type 0} (p : Reader X) (kind : A → Kind) (lay : A → X) (pay 
     where
       go : (k : Kind) (n : ℕ) (s : List ℕ) → b ≡ encoded (suc n) ++ (typeByte SharedByItems k ∷ s) → isBare k ≡ false
           → (ys : List (Named (Standing X))) (u : List ℕ) (xs : List A) → ys ≡ map (λ a. read-as kind lay (nameless a)) xs → s ≡ concat pay xs ++ u
-          → All (λ a. FieldWithin (SharedItem k) kind W (nameless a)) xs → length xs ≡ suc n → got (array (map (λ x. x .1) ys)) [] u ≡ got t [] [] → ItemsBack true b t
+          → All (λ a. FieldWithin (SharedItem k) kind W (nameless a)) xs → length xs ≡ suc n
+          → got (array (map (λ x. x .1) ys)) [] u ≡ got t [] [] → ItemsBack true b t
       go k n s v full ys u [] ey es ws el h = absurd (omega arith)
       go k n s v full ys u (x ∷ xs) ey es ws el h =
           let a : kind x ≡ k = ws .0 .0 .0 in
@@ -82,7 +88,8 @@ module _ {A X : Type 0} (p : Reader X) (kind : A → Kind) (lay : A → X) (pay 
       let y = raise-off (twins (namesIn ys)) Twin (got (object ys) [] r) (u .1) in
       (f .0, cc, f .2, cc (kinds-of-fields kind lay (f .0)), (f .4, cc (names-of-fields kind lay (f .0))))
 
-  shared-fields-inv : (b : List ℕ) (h : Head) (t : Node (Standing X)) → Bytes b → readSharedFields b ≡ got h [] [] → contents p h ≡ got t [] [] → FieldsBack true b t
+  shared-fields-inv : (b : List ℕ) (h : Head) (t : Node (Standing X)) → Bytes b → readSharedFields b ≡ got h [] []
+      → contents p h ≡ got t [] [] → FieldsBack true b t
   unfolding isUniform
   shared-fields-inv b h t w e c = shared-fields-got b e λ k x s eb eh.
       bind-case (fill (p (SharedField k)) (length (x ∷ s)) (x ∷ s)) _ (subst (λ h. contents p h ≡ got t [] []) eh c) λ ys r e₁ c₁.
@@ -98,7 +105,8 @@ module _ {A X : Type 0} (p : Reader X) (kind : A → Kind) (lay : A → X) (pay 
       go k s eb o ys r (x ∷ xs) ey es er ws h =
           let z = raise-off (twins (namesIn ys)) Twin (got (object ys) [] r) h in
           let a : kind (x .1) ≡ k = ws .0 .0 .0 in
-          let d : all (same (kind (x .1))) (map (λ y. kind (y .1)) xs) ≡ true = rw a (same-all (λ y. kind (y .1)) k xs (all-of _ (λ y. kind (y .1) ≡ k) (λ y w. w .0 .0) xs (ws .1))) in (
+          let d : all (same (kind (x .1))) (map (λ y. kind (y .1)) xs) ≡ true =
+          rw a (same-all (λ y. kind (y .1)) k xs (all-of _ (λ y. kind (y .1) ≡ k) (λ y w. w .0 .0) xs (ws .1))) in (
             x ∷ xs,
             cc,
             rw a (cc),
@@ -114,13 +122,15 @@ module _ {A X : Type 0} (p : Reader X) (kind : A → Kind) (lay : A → X) (pay 
   abbrev pub NodeBack : Kind → List ℕ → Node (Standing X) → List ℕ → Type 0
   NodeBack k s t r = (u : Node A) × (t ≡ mapNode (stand kind lay) u) × (s ≡ nodePayload kind pay u ++ r) × (nodeKind kind u ≡ k) × NodeWithin W u
 
-  leaf-inv : (k : Kind) (q : List ℕ → Out Leaf) → OnlyLeaves k q → (s : List ℕ) (h : Head) (t : Node (Standing X)) (r : List ℕ) → Bytes s → make value (q s) ≡ got h [] r → contents p h ≡ got t [] [] → NodeBack k s t r
+  leaf-inv : (k : Kind) (q : List ℕ → Out Leaf) → OnlyLeaves k q → (s : List ℕ) (h : Head) (t : Node (Standing X)) (r : List ℕ) → Bytes s
+      → make value (q s) ≡ got h [] r → contents p h ≡ got t [] [] → NodeBack k s t r
   leaf-inv k q only s h t r w e c = make-case value (q s) e λ v i z.
       let j = only s v r w i in
       let y : contents p (value v) ≡ got t [] [] = subst (λ h. contents p h ≡ got t [] []) z c in
       (atom v, cc, j .0, j .1, j .2)
 
-  head-inv : (k : Kind) (s : List ℕ) (h : Head) (t : Node (Standing X)) (r : List ℕ) → Bytes s → head k s ≡ got h [] r → contents p h ≡ got t [] [] → NodeBack k s t r
+  head-inv : (k : Kind) (s : List ℕ) (h : Head) (t : Node (Standing X)) (r : List ℕ) → Bytes s → head k s ≡ got h [] r
+      → contents p h ≡ got t [] [] → NodeBack k s t r
   unfolding head
   head-inv k s h t r w e c = by (payload k) (leaf-only k) e
     where

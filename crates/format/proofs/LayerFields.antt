@@ -40,8 +40,8 @@ pub record Fine {A X : Type 0} (p : Reader X) (kind : A → Kind) (lay : A → X
 abbrev pub nameless : {A : Type 0} → A → Named A
 nameless a = ([], a)
 
-along : {A B X : Type 0} (p : List ℕ → Out X) (out : A → X) (enc : A → List ℕ) (W : A → Type 0) (g : B → A) → ((a : A) → W a → (b : B) × (a ≡ g b)) → Good p out enc W
-    → Good p (λ b. out (g b)) (λ b. enc (g b)) (λ b. W (g b))
+along : {A B X : Type 0} (p : List ℕ → Out X) (out : A → X) (enc : A → List ℕ) (W : A → Type 0) (g : B → A)
+    → ((a : A) → W a → (b : B) × (a ≡ g b)) → Good p out enc W → Good p (λ b. out (g b)) (λ b. enc (g b)) (λ b. W (g b))
 along p out enc W g f h = record {
   rt = λ b r w l. h .rt (g b) r w l;
   inv = λ s x r w e. let i = h .inv s x r w e in let j = f (i .0) (i .3) in (j .0, rw (← j .1) (i .1), rw (← j .1) (i .2), rw (← j .1) (i .3));
@@ -51,10 +51,12 @@ module _ {A X : Type 0} (p : Reader X) (kind : A → Kind) (lay : A → X) (pay 
   -- ---- the fields, in the four forms of a container
 
   pub item-good : Good (p Item) (λ a. read-as kind lay (nameless a)) (λ a. typeByte OfItem (kind a) ∷ pay a) (λ a. FieldWithin Item kind W (nameless a))
-  item-good = along (p Item) (read-as kind lay) (fieldBytes Item kind pay) (FieldWithin Item kind W) nameless (λ x w. (x .1, ap (λ n. (n, x .1)) (w .0))) (g .good Item)
+  item-good = along (p Item) (read-as kind lay) (fieldBytes Item kind pay) (FieldWithin Item kind W) nameless
+      (λ x w. (x .1, ap (λ n. (n, x .1)) (w .0))) (g .good Item)
 
   pub shared-item-good : (k : Kind) → Good (p (SharedItem k)) (λ a. read-as kind lay (nameless a)) pay (λ a. FieldWithin (SharedItem k) kind W (nameless a))
-  shared-item-good k = along (p (SharedItem k)) (read-as kind lay) (fieldBytes (SharedItem k) kind pay) (FieldWithin (SharedItem k) kind W) nameless (λ x w. (x .1, ap (λ n. (n, x .1)) (w .0 .1))) (g .good (SharedItem k))
+  shared-item-good k = along (p (SharedItem k)) (read-as kind lay) (fieldBytes (SharedItem k) kind pay) (FieldWithin (SharedItem k) kind W) nameless
+      (λ x w. (x .1, ap (λ n. (n, x .1)) (w .0 .1))) (g .good (SharedItem k))
 
 -- what the readers of contents make of them
 module _ {A X : Type 0} (kind : A → Kind) (lay : A → X) where

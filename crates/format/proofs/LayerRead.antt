@@ -25,10 +25,12 @@ use Rattle.format.proofs.Back.{number-rt, sized-rt, many-rt, fill-rt}
 use Rattle.format.proofs.KindLaws.{kind-rt, all-same}
 use Rattle.format.proofs.TextLaws.{size-some, inside-lt}
 use Rattle.format.proofs.Leaves.{leaf-rt}
-use Rattle.format.proofs.LayerFields.{Fine, fieldBytes, item-good, items-stand, kinds-of-fields, kinds-of-items, nameless, names-of-fields, read-as, shared-item-good, stand}
+use Rattle.format.proofs.LayerFields.{Fine, fieldBytes, item-good, items-stand, kinds-of-fields, kinds-of-items, nameless, names-of-fields, read-as}
+use Rattle.format.proofs.LayerFields.{shared-item-good, stand}
 
 -- a head that is read gives the node by its contents
-by-head : {X : Type 0} (p : Reader X) (k : Kind) (s : List ℕ) (h : Head) (t : Node (Standing X)) (r : List ℕ) → head k s ≡ got h [] r → contents p h ≡ got t [] [] → readNode p k s ≡ got t [] r
+by-head : {X : Type 0} (p : Reader X) (k : Kind) (s : List ℕ) (h : Head) (t : Node (Standing X)) (r : List ℕ) → head k s ≡ got h [] r
+    → contents p h ≡ got t [] [] → readNode p k s ≡ got t [] r
 by-head p k s h t r e i = rw (e, i)
 
 shared-more : (k : Kind) (s : List ℕ) → 1 ≤ length s → sharedFieldsOf (Is k) s ≡ got (fieldsIn (SharedField k) s) [] []
@@ -39,7 +41,8 @@ no-uniform : {X : Type 0} → false ≡ true → X
 no-uniform h = clash cc
 
 module _ {A X : Type 0} (p : Reader X) (kind : A → Kind) (lay : A → X) (pay : A → List ℕ) (W : A → Type 0) (g : Fine p kind lay pay W) where
-  array-rt : (xs : List A) (r : List ℕ) → All W xs → (u : Bool) → isUniformArray (map kind xs) ≡ u → length (withSize (encoded (length xs) ++ items u kind pay xs)) < 2 ^ 64
+  array-rt : (xs : List A) (r : List ℕ) → All W xs → (u : Bool) → isUniformArray (map kind xs) ≡ u
+      → length (withSize (encoded (length xs) ++ items u kind pay xs)) < 2 ^ 64
       → readNode p (cond u UniformArray Array) (withSize (encoded (length xs) ++ items u kind pay xs) ++ r) ≡ got (array (map (stand kind lay) xs)) [] r
   unfolding isUniformArray head payload
   array-rt xs r w false e l =
@@ -62,7 +65,8 @@ module _ {A X : Type 0} (p : Reader X) (kind : A → Kind) (lay : A → X) (pay 
       let t = encoded (suc (length xs)) ++ (typeByte SharedByItems k ∷ concat pay (x ∷ xs)) in
       let n : length (encoded (suc (length xs))) + suc (length (concat pay (x ∷ xs))) < 2 ^ 64 = rw length-append at (inside-lt t l) in
       let b : suc (length xs) ≤ length (concat pay (x ∷ xs)) =
-      length-concat pay (x ∷ xs) (all-of (λ y. (kind y ≡ k) × W y) (λ y. 1 ≤ length (pay y)) (λ y h. g .some y (h .1) (rw (h .0) s)) (x ∷ xs) (all-both _ _ (x ∷ xs) q w)) in
+      length-concat pay (x ∷ xs)
+      (all-of (λ y. (kind y ≡ k) × W y) (λ y. 1 ≤ length (pay y)) (λ y h. g .some y (h .1) (rw (h .0) s)) (x ∷ xs) (all-both _ _ (x ∷ xs) q w)) in
       let m : many (p (SharedItem k)) (suc (length xs)) (concat pay (x ∷ xs)) ≡ got (map (λ a. read-as kind lay (nameless a)) (x ∷ xs)) [] [] =
       rw append-nil at (many-rt (p (SharedItem k)) (λ a. read-as kind lay (nameless a)) pay _ (shared-item-good p kind lay pay W g k) (x ∷ xs) []
       (all-of (λ y. (kind y ≡ k) × W y) _ (λ y h. ((h .0, refl), h .1)) (x ∷ xs) (all-both _ _ (x ∷ xs) q w)) (omega arith)) in
@@ -74,13 +78,15 @@ module _ {A X : Type 0} (p : Reader X) (kind : A → Kind) (lay : A → X) (pay 
   named-some : (k : Kind) (x : Named A) → 1 ≤ length (fieldBytes (SharedField k) kind pay x)
   named-some k x = size-some (x .0) (pay (x .1))
 
-  object-rt : (xs : List (Named A)) (r : List ℕ) → NodeWithin W (object xs) → (u : Bool) → isUniform (fieldKinds kind xs) ≡ u → length (withSize (fields u kind pay xs)) < 2 ^ 64
+  object-rt : (xs : List (Named A)) (r : List ℕ) → NodeWithin W (object xs) → (u : Bool) → isUniform (fieldKinds kind xs) ≡ u
+      → length (withSize (fields u kind pay xs)) < 2 ^ 64
       → readNode p (cond u UniformObject Object) (withSize (fields u kind pay xs) ++ r) ≡ got (object (map (read-as kind lay) xs)) [] r
   unfolding isUniform head payload
   object-rt xs r w false e l =
       let f = fieldBytes Field kind pay in
       let t = concat f xs in
-      let m = fill-rt (p Field) (read-as kind lay) f _ (g .good Field) xs (length t) (w .0) (all-pure (λ x. 1 ≤ length (f x)) (λ x. omega arith) xs) (omega arith) (inside-lt t l) in
+      let m = fill-rt (p Field) (read-as kind lay) f _ (g .good Field) xs (length t) (w .0) (all-pure (λ x. 1 ≤ length (f x)) (λ x. omega arith) xs)
+      (omega arith) (inside-lt t l) in
       by-head p Object (withSize t ++ r) (fieldsIn Field t) (object (map (read-as kind lay) xs)) r
       (sized-rt readFields t (fieldsIn Field t) r (inside-lt t l) refl)
       (rw (m, kinds-of-fields kind lay xs, names-of-fields kind lay xs, e, w .1))

@@ -20,7 +20,8 @@ use Rattle.float.proofs.Laws.{holds-nan, narrow-lt, narrow-nan, widen-narrow}
 use Rattle.format.specs.declared.Kind.the-variants.{Float32, Float64}
 use Rattle.format.specs.Kinds.{isBare}
 use Rattle.format.specs.Parse.{got, fixed, rest}
-use Rattle.format.specs.Tree.{Float, number, nan32, nan64, Leaf, null, bool, integer, float, binary, string, objectAttachment, binaryAttachment, hash, uuid, objectId, dateTime, timeSpan, customById, customByName, TicksWithin, FloatWithin, LeafWithin}
+use Rattle.format.specs.Tree.{Float, number, nan32, nan64, Leaf, null, bool, integer, float, binary, string, objectAttachment, binaryAttachment, hash}
+use Rattle.format.specs.Tree.{uuid, objectId, dateTime, timeSpan, customById, customByName, TicksWithin, FloatWithin, LeafWithin}
 use Rattle.format.specs.Encoding.{withSize, floatKind, floatPayload, leafKind, leafPayload}
 use Rattle.format.specs.Payload.{readCustomById, readCustomByName, payload, value, head}
 use Rattle.format.proofs.Back.{number-rt, fixed-rt, sized-rt}

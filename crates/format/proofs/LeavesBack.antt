@@ -15,13 +15,17 @@ use Rattle.float.specs.Rule.{holds}
 use Rattle.float.specs.Width.{isNan32, isNan64, widen}
 use Rattle.float.proofs.Laws.{widen-lt, widen-nan, widen-holds, narrow-widen}
 use Rattle.format.specs.declared.Kind.{Kind}
-use Rattle.format.specs.declared.Kind.the-variants.{Null, Object, UniformObject, Array, UniformArray, Binary, String, IntegerPositive, IntegerNegative, Float32, Float64, False, True, ObjectAttachment, BinaryAttachment, Hash, Uuid, DateTime, TimeSpan, ObjectId, CustomById, CustomByName}
+use Rattle.format.specs.declared.Kind.the-variants.{Null, Object, UniformObject, Array, UniformArray, Binary, String, IntegerPositive, IntegerNegative}
+use Rattle.format.specs.declared.Kind.the-variants.{Float32, Float64, False, True, ObjectAttachment, BinaryAttachment, Hash, Uuid, DateTime, TimeSpan}
+use Rattle.format.specs.declared.Kind.the-variants.{ObjectId, CustomById, CustomByName}
 use Rattle.format.specs.declared.Flaw.the-variants.{Low, Wide}
 use Rattle.format.specs.Parse.{Out, got, make, readVarUInt, fixed, sized, rest}
 use Rattle.format.specs.Names.{readText}
-use Rattle.format.specs.Tree.{number, nan32, nan64, Leaf, null, bool, integer, float, binary, string, objectAttachment, binaryAttachment, hash, uuid, objectId, dateTime, timeSpan, customById, customByName, TicksWithin, FloatWithin, LeafWithin}
+use Rattle.format.specs.Tree.{number, nan32, nan64, Leaf, null, bool, integer, float, binary, string, objectAttachment, binaryAttachment, hash, uuid}
+use Rattle.format.specs.Tree.{objectId, dateTime, timeSpan, customById, customByName, TicksWithin, FloatWithin, LeafWithin}
 use Rattle.format.specs.Encoding.{withSize, floatKind, floatPayload, leafKind, leafPayload}
-use Rattle.format.specs.Payload.{float32, float64, readNegative, readFloat64, readCustomById, readCustomByName, Payload, leaf, fields, sharedFields, items, sharedItems, payload}
+use Rattle.format.specs.Payload.{float32, float64, readNegative, readFloat64, readCustomById, readCustomByName, Payload, leaf, fields, sharedFields}
+use Rattle.format.specs.Payload.{items, sharedItems, payload}
 use Rattle.format.proofs.Back.{bind-case, make-case, raise-off, number-case, fixed-case, sized-case}
 use Rattle.format.proofs.TextLaws.{text-case}
 use Rattle.format.proofs.Leaves.{bits-lt, bits-of}
@@ -34,7 +38,8 @@ abbrev pub OnlyLeaves : Kind → (List ℕ → Out Leaf) → Type 0
 OnlyLeaves k p = (s : List ℕ) (v : Leaf) (r : List ℕ) → Bytes s → p s ≡ got v [] r → LeafBack k s v r
 
 -- bytes of a fixed size, and bytes behind their size, of which `made` makes the leaf
-fixed-only : (k : Kind) (n : ℕ) (made : List ℕ → Leaf) → ((b : List ℕ) → Bytes b → length b ≡ n → (leafPayload (made b) ≡ b) × (leafKind (made b) ≡ k) × LeafWithin (made b))
+fixed-only : (k : Kind) (n : ℕ) (made : List ℕ → Leaf)
+    → ((b : List ℕ) → Bytes b → length b ≡ n → (leafPayload (made b) ≡ b) × (leafKind (made b) ≡ k) × LeafWithin (made b))
     → OnlyLeaves k (λ s. make made (fixed n s))
 fixed-only k n made f s v r w h = make-case made (fixed n s) h λ b e z. fixed-case n s w e λ es l wb.
     let i = f b wb l in rw z (rw (i .0) es, i .1, i .2)
@@ -56,7 +61,8 @@ ticks-only m l = go (ltb m (2 ^ 63)) refl
 ticks-of : (b : List ℕ) → Bytes b → length b ≡ 8 → (toBytes 8 (toTwos (fromTwos (fromBytes b))) ≡ b) × TicksWithin (fromTwos (fromBytes b))
 ticks-of b w l = let f = bits-lt 8 b w l in (rw (twos-inv (fromBytes b) f) (bits-of 8 b w l), ticks-only (fromBytes b) f)
 
-float32-of : (b : List ℕ) → Bytes b → length b ≡ 4 → (floatPayload (float32 (fromBytes b)) ≡ b) × (floatKind (float32 (fromBytes b)) ≡ Float32) × FloatWithin (float32 (fromBytes b))
+float32-of : (b : List ℕ) → Bytes b → length b ≡ 4
+    → (floatPayload (float32 (fromBytes b)) ≡ b) × (floatKind (float32 (fromBytes b)) ≡ Float32) × FloatWithin (float32 (fromBytes b))
 float32-of b w l = go (isNan32 (fromBytes b)) refl
   where
     f : fromBytes b < 2 ^ 32
@@ -67,8 +73,11 @@ float32-of b w l = go (isNan32 (fromBytes b)) refl
         × (floatKind (cond x (nan32 (fromBytes b)) (number (widen (fromBytes b)))) ≡ Float32)
         × FloatWithin (cond x (nan32 (fromBytes b)) (number (widen (fromBytes b))))
     go true e = (bits-of 4 b w l, refl, (f, e))
-    go false e =
-        (rw (widen-holds (fromBytes b) f e, narrow-widen (fromBytes b) f e) (bits-of 4 b w l), rw (widen-holds (fromBytes b) f e), (widen-lt (fromBytes b) f e, widen-nan (fromBytes b) f e))
+    go false e = (
+      rw (widen-holds (fromBytes b) f e, narrow-widen (fromBytes b) f e) (bits-of 4 b w l),
+      rw (widen-holds (fromBytes b) f e),
+      (widen-lt (fromBytes b) f e, widen-nan (fromBytes b) f e),
+    )
 
 float64-of : (b : List ℕ) → Bytes b → length b ≡ 8 → holds (fromBytes b) ≡ false
     → (floatPayload (float64 (fromBytes b)) ≡ b) × (floatKind (float64 (fromBytes b)) ≡ Float64) × FloatWithin (float64 (fromBytes b))

@@ -35,7 +35,8 @@ pub bind-got : {A B X : Type 0} (o : Out A) (k : A → List ℕ → Out B) {b : 
 bind-got (fault n) k h c = never h
 bind-got (got a es q) k h c = with-got es (k a q) h λ gs e e′. c a es q gs refl e e′
 
-pub raise-got : {A X : Type 0} (b : Bool) (f : Flaw) (o : Out A) {c : A} {fs : List Flaw} {r : List ℕ} → raise b f o ≡ got c fs r → ((gs : List Flaw) → o ≡ got c gs r → X) → X
+pub raise-got : {A X : Type 0} (b : Bool) (f : Flaw) (o : Out A) {c : A} {fs : List Flaw} {r : List ℕ} → raise b f o ≡ got c fs r
+    → ((gs : List Flaw) → o ≡ got c gs r → X) → X
 raise-got true f o h c = with-got (f ∷ []) o h λ gs e _. c gs e
 raise-got false f o {c} {fs} h k = k fs h
 
@@ -69,7 +70,8 @@ pub local-number : Local readVarUInt
 unfolding readVarUInt
 local-number s a fs r h = go (varUInt s) refl h
   where
-    go : (o : VarUInt) → varUInt s ≡ o → number o s ≡ got a fs r → (w : List ℕ) × (s ≡ w ++ r) × ((q : List ℕ) → number (varUInt (w ++ q)) (w ++ q) ≡ got a fs q)
+    go : (o : VarUInt) → varUInt s ≡ o → number o s ≡ got a fs r
+        → (w : List ℕ) × (s ≡ w ++ r) × ((q : List ℕ) → number (varUInt (w ++ q)) (w ++ q) ≡ got a fs q)
     go Cut e h = never h
     go (Whole v n x) e h =
         let l = var-range s v n x e .2 in
@@ -93,18 +95,27 @@ local-fixed n s a fs r h = go (ltb (length s) n) refl h
         → (w : List ℕ) × (s ≡ w ++ r) × ((q : List ℕ) → cond (ltb (length (w ++ q)) n) (fault Early) (got (take n (w ++ q)) [] (drop n (w ++ q))) ≡ got a fs q)
     go true e h = never h
     go false e h =
-        let m : length (take n s) ≡ n = length-take-le n s (ltb-false (length s) n e) in
-        (take n s, cc (take-append-drop n s), λ q. rw (le-ltb (length (take n s ++ q)) n (rw (length-append (take n s) q) (omega arith)), take-at (take n s) q n m, drop-at (take n s) q n m) (cc))
+        let m : length (take n s) ≡ n = length-take-le n s (ltb-false (length s) n e) in (
+          take n s,
+          cc (take-append-drop n s),
+          λ q. rw (le-ltb (length (take n s ++ q)) n (rw (length-append (take n s) q) (omega arith)), take-at (take n s) q n m, drop-at (take n s) q n m) (cc),
+        )
 
 pub local-sized : {A : Type 0} (p : List ℕ → Out A) → Local (sized p)
-local-sized {A} p = local-bind readVarUInt (λ n r. cond (ltb (length r) n) (fault Early) (whole (p (take n r)) (drop n r))) local-number λ n s a fs r h. go n s a fs r (ltb (length s) n) refl h
+local-sized {A} p = local-bind readVarUInt (λ n r. cond (ltb (length r) n) (fault Early) (whole (p (take n r)) (drop n r))) local-number λ n s a fs r h.
+    go n s a fs r (ltb (length s) n) refl h
   where
-    go : (n : ℕ) (s : List ℕ) (a : A) (fs : List Flaw) (r : List ℕ) (b : Bool) → ltb (length s) n ≡ b → cond b (fault Early) (whole (p (take n s)) (drop n s)) ≡ got a fs r
-        → (w : List ℕ) × (s ≡ w ++ r) × ((q : List ℕ) → cond (ltb (length (w ++ q)) n) (fault Early) (whole (p (take n (w ++ q))) (drop n (w ++ q))) ≡ got a fs q)
+    go : (n : ℕ) (s : List ℕ) (a : A) (fs : List Flaw) (r : List ℕ) (b : Bool) → ltb (length s) n ≡ b
+        → cond b (fault Early) (whole (p (take n s)) (drop n s)) ≡ got a fs r
+        → (w : List ℕ) × (s ≡ w ++ r)
+        × ((q : List ℕ) → cond (ltb (length (w ++ q)) n) (fault Early) (whole (p (take n (w ++ q))) (drop n (w ++ q))) ≡ got a fs q)
     go n s a fs r true e h = never h
     go n s a fs r false e h = whole-got (p (take n s)) (drop n s) h λ i j.
-        let m : length (take n s) ≡ n = length-take-le n s (ltb-false (length s) n e) in
-        (take n s, cc (take-append-drop n s), λ q. rw (le-ltb (length (take n s ++ q)) n (rw (length-append (take n s) q) (omega arith)), take-at (take n s) q n m, drop-at (take n s) q n m, i))
+        let m : length (take n s) ≡ n = length-take-le n s (ltb-false (length s) n e) in (
+          take n s,
+          cc (take-append-drop n s),
+          λ q. rw (le-ltb (length (take n s ++ q)) n (rw (length-append (take n s) q) (omega arith)), take-at (take n s) q n m, drop-at (take n s) q n m, i),
+        )
 
 -- ---- what is taken
 
@@ -126,7 +137,9 @@ number-takes s {v = a} {fs} {r} h = go (varUInt s) refl h
 -- a size, and the bytes that it counts
 pub sized-got : {A X : Type 0} (p : List ℕ → Out A) (s : List ℕ) {a : A} {fs : List Flaw} {r : List ℕ} → sized p s ≡ got a fs r
     → ((pre b : List ℕ) (gs : List Flaw) → p b ≡ got a gs [] → s ≡ pre ++ (b ++ r) → 1 ≤ length pre → X) → X
-sized-got {A} {X} p s {a} {fs} {r} h c = bind-got (readVarUInt s) _ h λ n es q gs e k _. let w = local-number s n es q e in go n q gs (w .0) (w .1) (number-takes s e) (ltb (length q) n) k
+sized-got {A} {X} p s {a} {fs} {r} h c = bind-got (readVarUInt s) _ h λ n es q gs e k _.
+    let w = local-number s n es q e in
+    go n q gs (w .0) (w .1) (number-takes s e) (ltb (length q) n) k
   where
     go : (n : ℕ) (q : List ℕ) (gs : List Flaw) (w : List ℕ) → s ≡ w ++ q → length q < length s → (b : Bool)
         → cond b (fault Early) (whole (p (take n q)) (drop n q)) ≡ got a gs r → X

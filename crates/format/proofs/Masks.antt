@@ -16,7 +16,8 @@ use Rattle.format.specs.Limits.{depthLimit, lengthLimit}
 use Rattle.format.specs.declared.Flaw.{Flaw}
 use Rattle.format.specs.declared.Flaw.the-variants.{Twin, Blank, Long, Low, Wide, NotUtf8, NotUniform}
 use Rattle.format.specs.Parse.{Out, fault, got}
-use Rattle.format.specs.Mask.{stopValue, flawValue, modeOf, flaws, has, isAsked, counts, sumOf, paddingMode, paddingOf, maskOf, mask, Fewer, boundsOnly, strict}
+use Rattle.format.specs.Mask.{stopValue, flawValue, modeOf, flaws, has, isAsked, counts, sumOf, paddingMode, paddingOf, maskOf, mask, Fewer, boundsOnly}
+use Rattle.format.specs.Mask.{strict}
 use Rattle.format.specs.Reader.{read}
 
 -- ---- nothing met
@@ -94,12 +95,14 @@ cond-mono false b n f = omega arith
 
 sum-mono : (few more : ℕ) → Fewer few more → (met fs : List Flaw) → sumOf few met fs ≤ sumOf more met fs
 sum-mono few more w met [] = omega arith
-sum-mono few more w met (f ∷ fs) = omega (arith, cond-mono (counts few met f) (counts more met f) (flawValue f) (counts-fewer few more w met f), sum-mono few more w met fs)
+sum-mono few more w met (f ∷ fs) =
+    omega (arith, cond-mono (counts few met f) (counts more met f) (flawValue f) (counts-fewer few more w met f), sum-mono few more w met fs)
 
 of-mono : {A : Type 0} (few more : ℕ) → Fewer few more → (o : Out A) → maskOf few o ≤ maskOf more o
 of-mono few more w (fault k) = omega arith
 of-mono few more w (got x fs []) = omega (arith, sum-mono few more w fs flaws)
-of-mono few more w (got x fs (b ∷ r)) = omega (arith, sum-mono few more w fs flaws, cond-mono (isAsked few paddingMode) (isAsked more paddingMode) 4096 (w .withPadding))
+of-mono few more w (got x fs (b ∷ r)) =
+    omega (arith, sum-mono few more w fs flaws, cond-mono (isAsked few paddingMode) (isAsked more paddingMode) 4096 (w .withPadding))
 
 pub mask-mono : (few more : ℕ) (s : List ℕ) → Fewer few more → mask few s ≤ mask more s
 unfolding mask
@@ -149,19 +152,22 @@ mask-bits modes s = rw (of-kept modes (read depthLimit Top s))
 
 -- one stopping fault, or one sum, whatever the modes
 pub mask-made : (s : List ℕ)
-    → ((k : Stop) × ((modes : ℕ) → mask modes s ≡ stopValue k)) ⊎ ((met : List Flaw) × (left : List ℕ) × ((modes : ℕ) → mask modes s ≡ sumOf modes met flaws + paddingOf modes left))
+    → ((k : Stop) × ((modes : ℕ) → mask modes s ≡ stopValue k))
+    ⊎ ((met : List Flaw) × (left : List ℕ) × ((modes : ℕ) → mask modes s ≡ sumOf modes met flaws + paddingOf modes left))
 unfolding mask
 mask-made s = long-or (ltb lengthLimit (length s)) refl
   where
     read-or : (o : Out _) → read depthLimit Top s ≡ o → ltb lengthLimit (length s) ≡ false
         → ((k : Stop) × ((modes : ℕ) → cond (ltb lengthLimit (length s)) (stopValue TooLong) (maskOf modes (read depthLimit Top s)) ≡ stopValue k))
-        ⊎ ((met : List Flaw) × (left : List ℕ) × ((modes : ℕ) → cond (ltb lengthLimit (length s)) (stopValue TooLong) (maskOf modes (read depthLimit Top s)) ≡ sumOf modes met flaws + paddingOf modes left))
+        ⊎ ((met : List Flaw) × (left : List ℕ) × ((modes : ℕ)
+        → cond (ltb lengthLimit (length s)) (stopValue TooLong) (maskOf modes (read depthLimit Top s)) ≡ sumOf modes met flaws + paddingOf modes left))
     read-or (fault k) e l = inl (k, λ modes. rw (l, e))
     read-or (got x fs r) e l = inr (fs, r, λ modes. rw (l, e))
 
     long-or : (b : Bool) → ltb lengthLimit (length s) ≡ b
         → ((k : Stop) × ((modes : ℕ) → cond (ltb lengthLimit (length s)) (stopValue TooLong) (maskOf modes (read depthLimit Top s)) ≡ stopValue k))
-        ⊎ ((met : List Flaw) × (left : List ℕ) × ((modes : ℕ) → cond (ltb lengthLimit (length s)) (stopValue TooLong) (maskOf modes (read depthLimit Top s)) ≡ sumOf modes met flaws + paddingOf modes left))
+        ⊎ ((met : List Flaw) × (left : List ℕ) × ((modes : ℕ)
+        → cond (ltb lengthLimit (length s)) (stopValue TooLong) (maskOf modes (read depthLimit Top s)) ≡ sumOf modes met flaws + paddingOf modes left))
     long-or true l = inl (TooLong, λ modes. rw l)
     long-or false l = read-or (read depthLimit Top s) refl l
 
@@ -172,6 +178,7 @@ sum-bounds met (b ∷ r) = refl
 pub stop-same : (s : List ℕ) → (mask boundsOnly s ≡ 0 → ⊥) → (modes : ℕ) → mask modes s ≡ mask boundsOnly s
 stop-same s h modes = go (mask-made s)
   where
-    go : ((k : Stop) × ((modes : ℕ) → mask modes s ≡ stopValue k)) ⊎ ((met : List Flaw) × (left : List ℕ) × ((modes : ℕ) → mask modes s ≡ sumOf modes met flaws + paddingOf modes left)) → mask modes s ≡ mask boundsOnly s
+    go : ((k : Stop) × ((modes : ℕ) → mask modes s ≡ stopValue k)) ⊎ ((met : List Flaw) × (left : List ℕ)
+        × ((modes : ℕ) → mask modes s ≡ sumOf modes met flaws + paddingOf modes left)) → mask modes s ≡ mask boundsOnly s
     go (inl i) = i .1 modes ∙ sym (i .1 boundsOnly)
     go (inr i) = absurd (h (i .2 boundsOnly ∙ sum-bounds (i .0) (i .1)))

@@ -138,13 +138,15 @@ flaws =
     -- 512: a string, a field's name, a custom's name; not a binary, nor the rest of a custom
     ∷ format 512 (of 3 0x0701c3) ∷ format 512 (of 9 0x0207c101c3c8016105) ∷ format 512 (of 4 0x1f0201c3)
     -- 1024: an object's fields of one ID, 01, 0C and 0D too; an array's, but not of those
-    ∷ format 1024 (of 6 0x0204c8016105) ∷ format 1024 (of 5 0x0203c10161) ∷ format 1024 (of 5 0x0203cc0161) ∷ format 1024 (of 5 0x0403014805) ∷ format 1024 (of 7 0x04050248014802)
+    ∷ format 1024 (of 6 0x0204c8016105) ∷ format 1024 (of 5 0x0203c10161) ∷ format 1024 (of 5 0x0203cc0161) ∷ format 1024 (of 5 0x0403014805)
+    ∷ format 1024 (of 7 0x04050248014802)
     ∷ sound (of 4 0x04020141) ∷ sound (of 4 0x0402014c) ∷ sound (of 4 0x0402014d) ∷ sound (of 7 0x04050248014900) ∷ sound (of 6 0x040402414805)
     -- 4096
     ∷ padding 4096 (of 3 0x080500)
     -- each once: two of one kind; several of one payload
     ∷ format 64 (of 8 0x0506020880058006) ∷ row (of 9 0x0207c100c801618005) (0 ∷ 32 ∷ 64 ∷ 0 ∷ 96 ∷ 0 ∷ [])
-    -- an array of an object with two empty names and a long integer, an object of one field whose name is no text, a low integer and a wide float; and a byte behind it
+    -- an array of an object with two empty names and a long integer, an object of one field whose name is no text,
+    -- a low integer and a wide float; and a byte behind it
     ∷ row (of 36 0x0421044206c100c80080054203c101c349ff80000000000000004b000000000000000000) (0 ∷ 48 ∷ 1984 ∷ 4096 ∷ 6128 ∷ 0 ∷ [])
     ∷ []
 
@@ -159,6 +161,7 @@ unfolding varUInt encoded isText due equal holds known isBare isUniform isUnifor
 masks-pinned = refl
 
 -- 8: of 65,536 bytes there is none; of 65,537 it comes before all else, whatever is asked
-pub length-pinned : map (λ (x : ℕ × List ℕ). mask (x .0) (x .1)) ((7, 0x01 ∷ zeros 65535) ∷ (7, 0x01 ∷ zeros 65536) ∷ (0, 0x15 ∷ zeros 65536) ∷ []) ≡ 4096 ∷ 8 ∷ 8 ∷ []
+pub length-pinned : map (λ (x : ℕ × List ℕ). mask (x .0) (x .1))
+    ((7, 0x01 ∷ zeros 65535) ∷ (7, 0x01 ∷ zeros 65536) ∷ (0, 0x15 ∷ zeros 65536) ∷ []) ≡ 4096 ∷ 8 ∷ 8 ∷ []
 unfolding varUInt encoded isText due equal holds known isBare isUniform isUniformArray readVarUInt fixed isEmpty twins front head payload read mask
 length-pinned = refl

@@ -23,14 +23,16 @@ pub tree-layout : (d : ℕ) (t : Tree d) → tree d (layoutOf d t) ≡ t
 tree-layout zero t = absurd t
 tree-layout (suc d) (atom v) = refl
 tree-layout (suc d) (array xs) = ap array (map-map _ _ (λ x. x) (tree-layout d) xs ∙ map-same (λ x. x) (λ x. refl) xs)
-tree-layout (suc d) (object xs) = ap object (map-map _ _ (λ x. x) (λ x. ap (λ (t : Tree d). (x .0, t)) (tree-layout d (x .1))) xs ∙ map-same (λ x. x) (λ x. refl) xs)
+tree-layout (suc d) (object xs) =
+    ap object (map-map _ _ (λ x. x) (λ x. ap (λ (t : Tree d). (x .0, t)) (tree-layout d (x .1))) xs ∙ map-same (λ x. x) (λ x. refl) xs)
 
 pub read-fine : (d : ℕ) → Fine (read d) (kindOf d) (layoutOf d) (payloadOf d) (Within d)
 unfolding read
 read-fine zero = record { good = λ f. record { rt = λ a r w l. absurd (a .1); inv = λ s x r w h. never h }; some = λ a w h. absurd a }
 read-fine (suc d) = layer-fine (read d) (kindOf d) (layoutOf d) (payloadOf d) (Within d) (read-fine d)
 
-pub read-encoding : (d : ℕ) (t : Tree d) (r : List ℕ) → Within d t → length (encoding d t) < 2 ^ 64 → read d Top (encoding d t ++ r) ≡ got ([], (kindOf d t, layoutOf d t)) [] r
+pub read-encoding : (d : ℕ) (t : Tree d) (r : List ℕ) → Within d t → length (encoding d t) < 2 ^ 64
+    → read d Top (encoding d t ++ r) ≡ got ([], (kindOf d t, layoutOf d t)) [] r
 unfolding encoding
 read-encoding d t r w l = read-fine d .good Top .rt ([], t) r (refl, w) l
 

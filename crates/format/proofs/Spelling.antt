@@ -21,7 +21,8 @@ use Rattle.format.proofs.Masks.{counts-fewer, mask-mono, mask-bits, mas
 use Rattle.format.proofs.Strict.{read-back, passes, tree-of, only-encodings, tree-if-bounds, bounds-if-tree}
 use Rattle.format.proofs.BytesOf.{bytes-of-encoding}
 
--- 1. Reading gives back what was encoded: for every tree within the limits, its encoding followed by any bytes is read as that tree, with no flaw, and what followed is left
+-- 1. Reading gives back what was encoded: for every tree within the limits, its encoding followed by any bytes is read as that tree, with no flaw,
+-- and what followed is left
 pub reading-gives-back : (t : Tree depthLimit) → WithinLimits t → (r : List ℕ)
     → (l : Layout depthLimit) × (tree depthLimit l ≡ t) × (read depthLimit Top (encoding depthLimit t ++ r) ≡ got ([], (kindOf depthLimit t, l)) [] r)
 reading-gives-back t w r = (layoutOf depthLimit t, tree-layout depthLimit t, read-back t w r)
@@ -47,7 +48,8 @@ pub encoding-injective : (t u : Tree depthLimit) → WithinLimits t → WithinLi
 encoding-injective t u v w e = let z : some t ≡ some u = cc (tree-of t v, tree-of u w) in cc
 
 -- 4. Every encoding of a tree within the limits has mask 0 under every mode set, bounds checks alone among them; and the tree read from it is the tree encoded
-pub encoding-passes : (t : Tree depthLimit) → WithinLimits t → ((modes : ℕ) → mask modes (encoding depthLimit t) ≡ 0) × (treeOf (encoding depthLimit t) ≡ some t)
+pub encoding-passes : (t : Tree depthLimit) → WithinLimits t
+    → ((modes : ℕ) → mask modes (encoding depthLimit t) ≡ 0) × (treeOf (encoding depthLimit t) ≡ some t)
 encoding-passes t w = (passes t w, tree-of t w)
 
 -- 4. and it is a list of bytes
@@ -61,9 +63,11 @@ bounds-exactly-trees s = (tree-if-bounds s, λ x. bounds-if-tree s (x .0) (x .1)
 pub one-tree : (s : List ℕ) (t u : Tree depthLimit) → treeOf s ≡ some t → treeOf s ≡ some u → t ≡ u
 one-tree s t u e f = let z : some t ≡ some u = sym e ∙ f in cc
 
--- 5. The mask is one stopping fault, the same for every mode set; or it is the sum of the flaws met, each once where its mode is asked, and of what is left where Padding is
+-- 5. The mask is one stopping fault, the same for every mode set; or it is the sum of the flaws met, each once where its mode is asked,
+-- and of what is left where Padding is
 pub mask-is : (s : List ℕ)
-    → ((k : Stop) × ((modes : ℕ) → mask modes s ≡ stopValue k)) ⊎ ((met : List Flaw) × (left : List ℕ) × ((modes : ℕ) → mask modes s ≡ sumOf modes met flaws + paddingOf modes left))
+    → ((k : Stop) × ((modes : ℕ) → mask modes s ≡ stopValue k))
+    ⊎ ((met : List Flaw) × (left : List ℕ) × ((modes : ℕ) → mask modes s ≡ sumOf modes met flaws + paddingOf modes left))
 mask-is = mask-made
 
 -- 5. A stopping fault is the whole mask: where bounds checks alone do not pass, every mode set gives their answer
@@ -71,7 +75,8 @@ pub stop-is-whole : (s : List ℕ) → (mask boundsOnly s ≡ 0 → ⊥) → (mo
 stop-is-whole = stop-same
 
 -- 5. Asking for fewer modes never adds a fault: of whatever was met, what counts under fewer modes counts under more, and the mask is no greater
-pub fewer-modes : (few more : ℕ) → Fewer few more → ((met : List Flaw) (f : Flaw) → counts few met f ≡ true → counts more met f ≡ true) × ((s : List ℕ) → mask few s ≤ mask more s)
+pub fewer-modes : (few more : ℕ) → Fewer few more
+    → ((met : List Flaw) (f : Flaw) → counts few met f ≡ true → counts more met f ≡ true) × ((s : List ℕ) → mask few s ≤ mask more s)
 fewer-modes few more w = (counts-fewer few more w, λ s. mask-mono few more s w)
 
 -- 5. Other mode bits are ignored

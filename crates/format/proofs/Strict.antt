@@ -44,7 +44,8 @@ only-encodings s b h = mask-case strict s h λ l m. strict-case (read depthLimit
 
 pub tree-if-bounds : (s : List ℕ) → mask boundsOnly s ≡ 0 → (t : Tree depthLimit) × (treeOf s ≡ some t)
 unfolding treeOf
-tree-if-bounds s h = mask-case boundsOnly s h λ l m. bounds-case (read depthLimit Top s) m λ x fs r e. (tree depthLimit (x .1 .1), rw (le-ltb lengthLimit (length s) l, e))
+tree-if-bounds s h =
+    mask-case boundsOnly s h λ l m. bounds-case (read depthLimit Top s) m λ x fs r e. (tree depthLimit (x .1 .1), rw (le-ltb lengthLimit (length s) l, e))
 
 pub bounds-if-tree : (s : List ℕ) (t : Tree depthLimit) → treeOf s ≡ some t → mask boundsOnly s ≡ 0
 unfolding treeOf

@@ -30,7 +30,8 @@ inside-lt s l = omega (arith, simp length-append at l)
 pub text-rt : (t r : List ℕ) → isText t ≡ true → length t < 2 ^ 64 → readText (withSize t ++ r) ≡ got t [] r
 text-rt t r e l = rw (sized-rt rest t t r l refl, e)
 
-pub text-case : {X : Type 0} (s : List ℕ) {t r : List ℕ} → Bytes s → readText s ≡ got t [] r → (s ≡ withSize t ++ r → Text t → Bytes r → length t < 2 ^ 64 → X) → X
+pub text-case : {X : Type 0} (s : List ℕ) {t r : List ℕ} → Bytes s → readText s ≡ got t [] r
+    → (s ≡ withSize t ++ r → Text t → Bytes r → length t < 2 ^ 64 → X) → X
 text-case s {t} {r} w h c =
     bind-case (sized rest s) _ h λ a q e h₁. sized-case rest w e λ b e′ es wb l.
     let j = raise-off (not (isText a)) NotUtf8 (got a [] q) h₁ in

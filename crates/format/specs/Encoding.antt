@@ -10,12 +10,15 @@ use Rattle.number.specs.Signed.{toTwos}
 use Rattle.float.specs.Rule.{holds}
 use Rattle.float.specs.Width.{narrow}
 use Rattle.format.specs.declared.Kind.{Kind}
-use Rattle.format.specs.declared.Kind.the-variants.{Null, Object, UniformObject, Array, UniformArray, Binary, String, IntegerPositive, IntegerNegative, Float32, Float64, False, True, ObjectAttachment, BinaryAttachment, Hash, Uuid, DateTime, TimeSpan, ObjectId, CustomById, CustomByName}
+use Rattle.format.specs.declared.Kind.the-variants.{Null, Object, UniformObject, Array, UniformArray, Binary, String, IntegerPositive, IntegerNegative}
+use Rattle.format.specs.declared.Kind.the-variants.{Float32, Float64, False, True, ObjectAttachment, BinaryAttachment, Hash, Uuid, DateTime, TimeSpan}
+use Rattle.format.specs.declared.Kind.the-variants.{ObjectId, CustomById, CustomByName}
 use Rattle.format.specs.declared.Mark.{Mark}
 use Rattle.format.specs.declared.Mark.the-variants.{OfTop, OfField, OfItem, SharedByFields, SharedByItems}
 use Rattle.format.specs.Limits.{depthLimit, lengthLimit}
 use Rattle.format.specs.Kinds.{typeByte, isUniform, isUniformArray}
-use Rattle.format.specs.Tree.{Float, number, nan32, nan64, Leaf, null, bool, integer, float, binary, string, objectAttachment, binaryAttachment, hash, uuid, objectId, dateTime, timeSpan, customById, customByName, Node, atom, array, object, Tree, Within}
+use Rattle.format.specs.Tree.{Float, number, nan32, nan64, Leaf, null, bool, integer, float, binary, string, objectAttachment, binaryAttachment, hash}
+use Rattle.format.specs.Tree.{uuid, objectId, dateTime, timeSpan, customById, customByName, Node, atom, array, object, Tree, Within}
 
 -- a size, and the bytes that it counts
 abbrev pub withSize : List ℕ → List ℕ

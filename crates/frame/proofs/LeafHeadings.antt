@@ -22,7 +22,8 @@ use Rattle.format.specs.Kinds.{isBare, kindAt}
 use Rattle.format.specs.declared.Flaw.{Flaw}
 use Rattle.format.specs.Parse.{Out, fault, got, withFlaws, bind, make, whole, readVarUInt, sized}
 use Rattle.format.specs.Tree.{Leaf}
-use Rattle.format.specs.Payload.{Payload, leaf, fields, sharedFields, items, sharedItems, payload, Head, value, fieldsIn, itemsIn, sharedFieldsOf, readSharedFields, sharedItemsOf, readSharedItems, readFields, readItems, headBy, head}
+use Rattle.format.specs.Payload.{Payload, leaf, fields, sharedFields, items, sharedItems, payload, Head, value, fieldsIn, itemsIn, sharedFieldsOf}
+use Rattle.format.specs.Payload.{readSharedFields, sharedItemsOf, readSharedItems, readFields, readItems, headBy, head}
 use Rattle.frames.specs.FramePieces.{IsLeaf}
 use Rattle.faults.specs.Noted.{noted}
 use Rattle.front.specs.Code.{answerOf}
@@ -38,7 +39,8 @@ abbrev pub headingLeaf : Modes → Faults → ℕ → Out Leaf → Heading
 headingLeaf m g n (fault j) = H.Stop j
 headingLeaf m g n (got v fs r) = H.Leaf (n - length r) (noted m g fs)
 
-pub heading-leaf : (k : Kind) (p : List ℕ → Out Leaf) → payload k ≡ leaf p → (m : Modes) (g : Faults) (s : List ℕ) → headAt k m g s ≡ headingLeaf m g (length s) (p s)
+pub heading-leaf : (k : Kind) (p : List ℕ → Out Leaf) → payload k ≡ leaf p → (m : Modes) (g : Faults) (s : List ℕ)
+    → headAt k m g s ≡ headingLeaf m g (length s) (p s)
 unfolding headAt head
 heading-leaf k p e m g s = rw e (go (p s))
   where
@@ -78,7 +80,8 @@ opens-cond true j o h = tt
 opens-cond false j o h = h
 
 opens-sized : (p : List ℕ → Out Head) (s : List ℕ) → ((b : List ℕ) → Opens (p b)) → Opens (sized p s)
-opens-sized p s h = opens-bind (readVarUInt s) (λ n r. cond (ltb (length r) n) (fault Early) (whole (p (take n r)) (drop n r))) λ n r. opens-cond (ltb (length r) n) Early (whole (p (take n r)) (drop n r)) (opens-whole (p (take n r)) (drop n r) (h (take n r)))
+opens-sized p s h = opens-bind (readVarUInt s) (λ n r. cond (ltb (length r) n) (fault Early) (whole (p (take n r)) (drop n r))) λ n r.
+    opens-cond (ltb (length r) n) Early (whole (p (take n r)) (drop n r)) (opens-whole (p (take n r)) (drop n r) (h (take n r)))
 
 opens-fields : (o : Known) (s : List ℕ) → Opens (sharedFieldsOf o s)
 opens-fields Unknown s = tt
@@ -109,7 +112,8 @@ module _ (k : Kind) (m : Modes) (g : Faults) (s : List ℕ) where
       go fields e = d (rw e (opens-sized readFields s (λ b. tt))) (rw e)
       go sharedFields e = d (rw e (opens-sized readSharedFields s opens-shared-fields)) (rw e)
       go items e = d (rw e (opens-sized readItems s (λ b. opens-bind (readVarUInt b) (λ n r. got (itemsIn Item n r) [] []) (λ n r. tt)))) (rw e)
-      go sharedItems e = d (rw e (opens-sized (λ b. bind (readVarUInt b) readSharedItems) s (λ b. opens-bind (readVarUInt b) readSharedItems opens-shared-items))) (rw e)
+      go sharedItems e =
+          d (rw e (opens-sized (λ b. bind (readVarUInt b) readSharedItems) s (λ b. opens-bind (readVarUInt b) readSharedItems opens-shared-items))) (rw e)
 
   pub not-leaf : {X : Type 0} → Opens (head k s) → (b : ℕ) (h : Faults) → headAt k m g s ≡ H.Leaf b h → X
   unfolding headAt

@@ -49,7 +49,8 @@ use Rattle.frame.proofs.LeafHeadings.{headingLeaf, heading-leaf, Opens,
 -- ---- the returns of a leaf
 
 module _ (s : List ℕ) (k : Kind) (m : Modes) (g : Faults) (x : Heading) (e : x ≡ headAt k m g s) where
-  here : {X : Type 0} → ((p : List ℕ → Out Leaf) → payload k ≡ leaf p → x ≡ headingLeaf m g (length s) (p s) → leafFrameOf k s ≡ leafMet (length s) (leafFound s (p s)) → X)
+  here : {X : Type 0}
+      → ((p : List ℕ → Out Leaf) → payload k ≡ leaf p → x ≡ headingLeaf m g (length s) (p s) → leafFrameOf k s ≡ leafMet (length s) (leafFound s (p s)) → X)
       → (Opens (head k s) → L.Refused BadFrame ≡ leafFrameOf k s → X) → X
   unfolding leafFrameOf
   here c d = leaf-or k m g s (λ i. leaf-of k i λ p ep. c p ep (e ∙ heading-leaf k p ep m g s) (rw ep)) d
@@ -76,11 +77,12 @@ module _ (s : List ℕ) (k : Kind) (m : Modes) (g : Faults) (x : Heading) (e : x
       go (got t fs r) h = clash cc
 
   module _ (b : ℕ) (h : Faults) (i : x ≡ H.Leaf b h) (em : m ≡ allModes) (eg : g ≡ nothing) where
-    read-case : {X : Type 0} → ((p : List ℕ → Out Leaf) (v : Leaf) (fs : List Flaw) (r : List ℕ) → payload k ≡ leaf p → p s ≡ got v fs r → b ≡ length s - length r → h ≡ noted allModes nothing fs
-        → leafFrameOf k s ≡ leafMet (length s) (leafFound s (p s)) → X) → X
+    read-case : {X : Type 0} → ((p : List ℕ → Out Leaf) (v : Leaf) (fs : List Flaw) (r : List ℕ) → payload k ≡ leaf p → p s ≡ got v fs r
+        → b ≡ length s - length r → h ≡ noted allModes nothing fs → leafFrameOf k s ≡ leafMet (length s) (leafFound s (p s)) → X) → X
     read-case {X} c = here (λ p ep z a. go p ep a (p s) refl (sym i ∙ z)) (λ o z. not-leaf k m g s o b h (sym e ∙ i))
       where
-        go : (p : List ℕ → Out Leaf) → payload k ≡ leaf p → leafFrameOf k s ≡ leafMet (length s) (leafFound s (p s)) → (o : Out Leaf) → p s ≡ o → H.Leaf b h ≡ headingLeaf m g (length s) o → X
+        go : (p : List ℕ → Out Leaf) → payload k ≡ leaf p → leafFrameOf k s ≡ leafMet (length s) (leafFound s (p s)) → (o : Out Leaf) → p s ≡ o
+            → H.Leaf b h ≡ headingLeaf m g (length s) o → X
         go p ep a (fault j) y z = clash cc
         go p ep a (got v fs r) y z = c p v fs r ep y (cc) (let w : h ≡ noted m g fs = cc in rw (em, eg) at w) a
 
@@ -105,8 +107,10 @@ module _ (s : List ℕ) (k : Kind) (m : Modes) (g : Faults) (x : Heading) (e : x
 
           module _ (jo : o ≡ false) (f : Bool) (ef : f ≡ isNoted Wide h) (w : reads.Known s) where
             -- the frame is good
-            good : {X : Type 0} → ((v : Leaf) (fs : List Flaw) (r : List ℕ) → leafFrameOf k s ≡ L.Read (length s - length r) (id (leafKind v)) (length (leafPayload v))
-                → b ≡ length s - length r → has Wide fs ≡ f → ((fs ≡ [] → s ≡ leafPayload v ++ r → leafKind v ≡ k → X) → (k ≡ Float64 → Double s v fs r → X) → X) → X) → X
+            good : {X : Type 0}
+                → ((v : Leaf) (fs : List Flaw) (r : List ℕ) → leafFrameOf k s ≡ L.Read (length s - length r) (id (leafKind v)) (length (leafPayload v))
+                → b ≡ length s - length r → has Wide fs ≡ f
+                → ((fs ≡ [] → s ≡ leafPayload v ++ r → leafKind v ≡ k → X) → (k ≡ Float64 → Double s v fs r → X) → X) → X) → X
             good c = read-case λ p v fs r ep er eb eh a.
                 let z : has Long fs ≡ false = told Long h fs t _ eh et jt in
                 let y : has Low fs ≡ false = told Low h fs u _ eh eu ju in
@@ -127,7 +131,9 @@ module _ (s : List ℕ) (k : Kind) (m : Modes) (g : Faults) (x : Heading) (e : x
 
             pub leaf-plain : f ≡ false → (n : ℕ) → n ≡ id k → L.Read b n b ≡ leafFrameOf k s
             leaf-plain j n en′ = good λ v fs r ea eb ew c. c
-                (λ ef′ es ek. let q : b ≡ length (leafPayload v) = omega (arith, simp length-append at (ap length es)) in let y : length s - length r ≡ b = sym eb in rw (ea, ek, y, en′, ← q))
+                (λ ef′ es ek.
+                let q : b ≡ length (leafPayload v) = omega (arith, simp length-append at (ap length es)) in
+                let y : length s - length r ≡ b = sym eb in rw (ea, ek, y, en′, ← q))
                 (λ ek d. let z : holds (bitsOf s) ≡ false = go (holds (bitsOf s)) (rw (d .flaws) at (ew ∙ j)) in
                 let i : leafKind v ≡ Float64 = rw z at (d .kind) in
                 let y : leafPayload v ≡ take 8 s = rw z at (d .bytes) in

@@ -58,7 +58,8 @@ front-named : (k : Kind) (m : Modes) (g : Faults) (s : List ℕ) → frontAt (Sh
 unfolding frontAt front
 front-named k m g s = go (readName s)
   where
-    go : (o : Out (List ℕ)) → answerOf F.Stop (λ (x : List ℕ × Kind) h r. F.Read (x .1) (length s - length r - length (x .0)) (length s - length r) h) m g (bind o λ n q. got (n, k) [] q)
+    go : (o : Out (List ℕ)) → answerOf F.Stop (λ (x : List ℕ × Kind) h r. F.Read (x .1) (length s - length r - length (x .0)) (length s - length r) h) m g
+        (bind o λ n q. got (n, k) [] q)
         ≡ frontNamed k m g (length s) o
     go (fault j) = refl
     go (got t fs r) = rw (with-put {A = List ℕ × Kind} fs [] (t, k) r, append-nil fs)
@@ -67,7 +68,8 @@ front-named k m g s = go (readName s)
 pub name-parts : (s : List ℕ) {t : List ℕ} {fs : List Flaw} {r : List ℕ} → readName s ≡ got t fs r → (w : List ℕ) × (s ≡ w ++ (t ++ r))
 unfolding front
 name-parts s {t} {fs} {r} h =
-    let e : front (SharedField Null) s ≡ got (t, Null) (fs ++ []) r = rw h (with-put {A = List ℕ × Kind} fs [] (t, Null) r) in front-takes (SharedField Null) s e .0
+    let e : front (SharedField Null) s ≡ got (t, Null) (fs ++ []) r = rw h (with-put {A = List ℕ × Kind} fs [] (t, Null) r) in
+    front-takes (SharedField Null) s e .0
 
 -- ---- the returns
 
@@ -93,7 +95,8 @@ module _ (s : List ℕ) (k : Kind) (m : Modes) (g : Faults) (x : Front) (e : x �
 
   module _ (q : Kind) (a b : ℕ) (h : Faults) (i : x ≡ F.Read q a b h) where
     -- what was read
-    read-case : {X : Type 0} → ((t : List ℕ) (fs : List Flaw) (r : List ℕ) → readName s ≡ got t fs r → a ≡ length s - length r - length t → b ≡ length s - length r → h ≡ noted m g fs → X) → X
+    read-case : {X : Type 0} → ((t : List ℕ) (fs : List Flaw) (r : List ℕ) → readName s ≡ got t fs r → a ≡ length s - length r - length t
+        → b ≡ length s - length r → h ≡ noted m g fs → X) → X
     read-case {X} c = go (readName s) refl (sym i ∙ here)
       where
         go : (o : Out (List ℕ)) → readName s ≡ o → F.Read q a b h ≡ frontNamed k m g (length s) o → X

@@ -40,7 +40,8 @@ inside-end s at l = (omega arith, drop-of-length-le s {i = length s} (omega arit
 -- ---- a name
 
 -- where a name of m bytes stands that leaves r of the t - a bytes behind a
-moved : (a t b f m r w n : ℕ) → a ≤ t → n ≡ t - a → n ≡ w + (m + r) → b ≡ n - r - m → f ≡ n - r → (a + b ≡ t - r - m) × (a + f ≡ t - r) × (a + b ≤ t) × (a + f ≤ t)
+moved : (a t b f m r w n : ℕ) → a ≤ t → n ≡ t - a → n ≡ w + (m + r) → b ≡ n - r - m → f ≡ n - r
+    → (a + b ≡ t - r - m) × (a + f ≡ t - r) × (a + b ≤ t) × (a + f ≤ t)
 moved a t b f m r w n l d e u v = rw (whole a t w m r n l d e, front n w m r b e u, till n w m r f e v) (here a w m r)
   where
     whole : (a t w m r n : ℕ) → a ≤ t → n ≡ t - a → n ≡ w + (m + r) → t ≡ a + (w + (m + r))
@@ -55,7 +56,8 @@ moved a t b f m r w n l d e u v = rw (whole a t w m r n l d e, front n w m r b e
     front : (n w m r b : ℕ) → n ≡ w + (m + r) → b ≡ n - r - m → b ≡ w
     front n w m r b e u = let z : n - r ≡ w + m = till n w m r (n - r) e refl in rw z at u ∙ drop-end w m
 
-    here : (a w m r : ℕ) → (a + w ≡ a + (w + (m + r)) - r - m) × (a + (w + m) ≡ a + (w + (m + r)) - r) × (a + w ≤ a + (w + (m + r))) × (a + (w + m) ≤ a + (w + (m + r)))
+    here : (a w m r : ℕ)
+        → (a + w ≡ a + (w + (m + r)) - r - m) × (a + (w + m) ≡ a + (w + (m + r)) - r) × (a + w ≤ a + (w + (m + r))) × (a + (w + m) ≤ a + (w + (m + r)))
     here a w m r =
         let z : a + (w + (m + r)) - r ≡ a + w + m = omega arith in
         (rw z (sym (drop-end (a + w) m)), rw z (omega arith), omega arith, omega arith)
@@ -81,8 +83,8 @@ module _ (s : List ℕ) (from : ℕ) (l : from ≤ length s) (x : Name) (e : x �
   pub name-refused : (n : Refusal) → x ≡ N.Refused n → (at : ℕ) → drop from s ≡ drop at s → N.Refused n ≡ nameAt s at
   name-refused n i at d = go (readName (drop from s)) (sym i ∙ here) ∙ moved-name s at from d
     where
-      by : (a b c : Bool) (u v : Name) → N.Refused n ≡ cond a (N.Refused BadFrame) (cond b (N.Refused EmptyName) (cond c (N.Refused NotText) u)) → (N.Refused n ≡ u → N.Refused n ≡ v)
-          → N.Refused n ≡ cond a (N.Refused BadFrame) (cond b (N.Refused EmptyName) (cond c (N.Refused NotText) v))
+      by : (a b c : Bool) (u v : Name) → N.Refused n ≡ cond a (N.Refused BadFrame) (cond b (N.Refused EmptyName) (cond c (N.Refused NotText) u))
+          → (N.Refused n ≡ u → N.Refused n ≡ v) → N.Refused n ≡ cond a (N.Refused BadFrame) (cond b (N.Refused EmptyName) (cond c (N.Refused NotText) v))
       by true b c u v h f = h
       by false true c u v h f = h
       by false false true u v h f = h
@@ -97,8 +99,10 @@ module _ (s : List ℕ) (from : ℕ) (l : from ≤ length s) (x : Name) (e : x �
     shifted = go (readName (drop from s)) refl (sym i ∙ here)
       where
         by : (m : List ℕ) (fs : List Flaw) (r : List ℕ) → readName (drop from s) ≡ got m fs r → (p q o : Bool)
-            → N.At b f ≡ cond p (N.Refused BadFrame) (cond q (N.Refused EmptyName) (cond o (N.Refused NotText) (N.At (length (drop from s) - length r - length m) (length (drop from s) - length r))))
-            → (N.At (from + b) (from + f) ≡ cond p (N.Refused BadFrame) (cond q (N.Refused EmptyName) (cond o (N.Refused NotText) (N.At (length s - length r - length m) (length s - length r)))))
+            → N.At b f ≡ cond p (N.Refused BadFrame)
+            (cond q (N.Refused EmptyName) (cond o (N.Refused NotText) (N.At (length (drop from s) - length r - length m) (length (drop from s) - length r))))
+            → (N.At (from + b) (from + f) ≡ cond p (N.Refused BadFrame)
+            (cond q (N.Refused EmptyName) (cond o (N.Refused NotText) (N.At (length s - length r - length m) (length s - length r)))))
             × (from + b ≤ length s) × (from + f ≤ length s)
         by m fs r y true q o h = stands h
         by m fs r y false true o h = stands h
@@ -111,7 +115,8 @@ module _ (s : List ℕ) (from : ℕ) (l : from ≤ length s) (x : Name) (e : x �
             let z = moved from (length s) b f (length m) (length r) (length (p .0)) (length (drop from s)) l (length-drop from s) n u v in
             (rw (z .0, z .1), z .2, z .3)
 
-        go : (o : Out (List ℕ)) → readName (drop from s) ≡ o → N.At b f ≡ nameBy (length (drop from s)) o → (N.At (from + b) (from + f) ≡ nameBy (length s) o) × (from + b ≤ length s) × (from + f ≤ length s)
+        go : (o : Out (List ℕ)) → readName (drop from s) ≡ o → N.At b f ≡ nameBy (length (drop from s)) o
+            → (N.At (from + b) (from + f) ≡ nameBy (length s) o) × (from + b ≤ length s) × (from + f ≤ length s)
         go (fault k) y h = stands h
         go (got m fs r) y h = by m fs r y (has Long fs) (has Blank fs) (has NotUtf8 fs) h
 
@@ -157,7 +162,8 @@ module _ (s : List ℕ) (from : ℕ) (l : from ≤ length s) (k : Kind) (x : Lea
     leaf-shifted : (L.Read (from + f) i z ≡ leafMet (length s) (leafBy (payload k) (drop from s))) × (from + f ≤ length s)
     leaf-shifted = go (leafBy (payload k) (drop from s)) refl (sym h ∙ leaf-here)
       where
-        go : (o : Frames Leaf) → leafBy (payload k) (drop from s) ≡ o → L.Read f i z ≡ leafMet (length (drop from s)) o → (L.Read (from + f) i z ≡ leafMet (length s) o) × (from + f ≤ length s)
+        go : (o : Frames Leaf) → leafBy (payload k) (drop from s) ≡ o → L.Read f i z ≡ leafMet (length (drop from s)) o
+            → (L.Read (from + f) i z ≡ leafMet (length s) o) × (from + f ≤ length s)
         go (refused m r) y q = clash cc
         go (framed v r) y q =
             let u : f ≡ length (drop from s) - length r = cc in

@@ -57,13 +57,15 @@ pub record Wrote (list output work : List ℕ) (n : ℕ) (result : Result) : Typ
 no-success : {X : Type 0} {r : Refusal} {p n : ℕ} → Refused r p ≡ Done n → X
 no-success h = clash cc
 
-pub written-is-encoding : (list output work : List ℕ) (n : ℕ) → Bytes list → written list output work .answer ≡ Done n → Wrote list output work n (written list output work)
+pub written-is-encoding : (list output work : List ℕ) (n : ℕ) → Bytes list → written list output work .answer ≡ Done n
+    → Wrote list output work n (written list output work)
 unfolding written outcome
 written-is-encoding list output work n w h = short (ltb lengthLimit (length list)) h
   where
     fits : (t : Tree depthLimit) → readList depthLimit list ≡ framed t [] → (few small large : Bool) → ltb (length work) (length (sizesOf depthLimit t)) ≡ few
         → ltb (length output) (length (encoding depthLimit t)) ≡ small → ltb lengthLimit (length (encoding depthLimit t)) ≡ large
-        → (o : Outcome) → o ≡ cond few (refuse FewWorkNumbers 0) (cond (small || large) (refuse EncodingTooLong 0) (wrote (encoding depthLimit t) (sizesOf depthLimit t)))
+        → (o : Outcome)
+        → o ≡ cond few (refuse FewWorkNumbers 0) (cond (small || large) (refuse EncodingTooLong 0) (wrote (encoding depthLimit t) (sizesOf depthLimit t)))
         → resultOf o output work .answer ≡ Done n → Wrote list output work n (resultOf o output work)
     fits t e true small large a b c o z h = no-success (rw z at h)
     fits t e false true large a b c o z h = no-success (rw z at h)
@@ -71,7 +73,8 @@ written-is-encoding list output work n w h = short (ltb lengthLimit (length list
     fits t e false false false a b c o z h =
         let i : Done (length (encoding depthLimit t)) ≡ Done n = rw z at h in
         let m : length (encoding depthLimit t) ≡ n = cc in
-        let l : WithinLimits t = record { within = frames-within depthLimit list w t [] e; short = ltb-false lengthLimit (length (encoding depthLimit t)) c } in
+        let l : WithinLimits t =
+        record { within = frames-within depthLimit list w t [] e; short = ltb-false lengthLimit (length (encoding depthLimit t)) c } in
         rw z (record {
           tree = t;
           described = e;
@@ -85,15 +88,19 @@ written-is-encoding list output work n w h = short (ltb lengthLimit (length list
           reads-back = encoding-passes t l .1;
         })
 
-    read : (f : Frames (Tree depthLimit)) → readList depthLimit list ≡ f → resultOf (outcomeAfter depthLimit (length output) (length work) list f) output work .answer ≡ Done n
+    read : (f : Frames (Tree depthLimit)) → readList depthLimit list ≡ f
+        → resultOf (outcomeAfter depthLimit (length output) (length work) list f) output work .answer ≡ Done n
         → Wrote list output work n (resultOf (outcomeAfter depthLimit (length output) (length work) list f) output work)
     read (refused r q) e h = no-success h
     read (framed t r) e h =
-        fits t (e ∙ ap (λ (q : List ℕ). framed t q) (list-ends depthLimit list e)) (ltb (length work) (length (sizesOf depthLimit t))) (ltb (length output) (length (encoding depthLimit t)))
+        fits t (e ∙ ap (λ (q : List ℕ). framed t q) (list-ends depthLimit list e)) (ltb (length work) (length (sizesOf depthLimit t)))
+        (ltb (length output) (length (encoding depthLimit t)))
         (ltb lengthLimit (length (encoding depthLimit t))) refl refl refl _ refl h
 
-    short : (b : Bool) → resultOf (cond b (refuse ListTooLong 0) (outcomeAfter depthLimit (length output) (length work) list (readList depthLimit list))) output work .answer ≡ Done n
-        → Wrote list output work n (resultOf (cond b (refuse ListTooLong 0) (outcomeAfter depthLimit (length output) (length work) list (readList depthLimit list))) output work)
+    short : (b : Bool) → resultOf
+        (cond b (refuse ListTooLong 0) (outcomeAfter depthLimit (length output) (length work) list (readList depthLimit list))) output work .answer ≡ Done n
+        → Wrote list output work n
+        (resultOf (cond b (refuse ListTooLong 0) (outcomeAfter depthLimit (length output) (length work) list (readList depthLimit list))) output work)
     short true h = no-success h
     short false h = read (readList depthLimit list) refl h
 
@@ -108,6 +115,7 @@ pub refused-leaves : (list output work : List ℕ) (r : Refusal) (p : ℕ) → w
 unfolding written
 refused-leaves list output work r p h = go (outcome (length output) (length work) list) h
   where
-    go : (o : Outcome) → resultOf o output work .answer ≡ Refused r p → (resultOf o output work .output ≡ output) × (resultOf o output work .work ≡ zeros (length work))
+    go : (o : Outcome) → resultOf o output work .answer ≡ Refused r p
+        → (resultOf o output work .output ≡ output) × (resultOf o output work .work ≡ zeros (length work))
     go (refuse n q) h = (refl, refl)
     go (wrote e z) h = no-refusal h

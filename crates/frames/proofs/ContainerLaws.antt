@@ -32,16 +32,19 @@ module _ {A : Type 0} (kind : A → Kind) (pay : A → List ℕ) where
   object-body xs = rw (object-uniform kind xs) (go (uniform true (shared (ids kind xs))) refl)
     where
       go : (u : Bool) → uniform true (shared (ids kind xs)) ≡ u → fields u kind pay xs
-          ≡ cond u ((flags SharedByFields + shared (ids kind xs)) ∷ []) [] ++ concat (λ x. cond (not u) (typeByte OfField (kind (x .1)) ∷ []) [] ++ (withSize (x .0) ++ pay (x .1))) xs
+          ≡ cond u ((flags SharedByFields + shared (ids kind xs)) ∷ []) []
+          ++ concat (λ x. cond (not u) (typeByte OfField (kind (x .1)) ∷ []) [] ++ (withSize (x .0) ++ pay (x .1))) xs
       go true h = rw (shared-byte kind true SharedByFields xs h)
       go false h = refl
 
   pub array-body : (xs : List (List ℕ × A)) → arrayBody kind pay (map (λ x. x .1) xs) ≡ body false kind pay xs
   unfolding countPart sharedPart typePart namePart
-  array-body xs = rw (array-uniform kind xs, length-map (λ (x : List ℕ × A). x .1) xs) (ap (λ (t : List ℕ). encoded (length xs) ++ t) (go (uniform false (shared (ids kind xs))) refl))
+  array-body xs = rw (array-uniform kind xs, length-map (λ (x : List ℕ × A). x .1) xs)
+      (ap (λ (t : List ℕ). encoded (length xs) ++ t) (go (uniform false (shared (ids kind xs))) refl))
     where
       go : (u : Bool) → uniform false (shared (ids kind xs)) ≡ u → items u kind pay (map (λ x. x .1) xs)
-          ≡ cond u ((flags SharedByItems + shared (ids kind xs)) ∷ []) [] ++ concat (λ x. cond (not u) (typeByte OfItem (kind (x .1)) ∷ []) [] ++ pay (x .1)) xs
+          ≡ cond u ((flags SharedByItems + shared (ids kind xs)) ∷ []) []
+          ++ concat (λ x. cond (not u) (typeByte OfItem (kind (x .1)) ∷ []) [] ++ pay (x .1)) xs
       go true h = rw (map-second kind xs, shared-byte kind false SharedByItems xs h, concat-map pay (λ (x : List ℕ × A). x .1) xs)
       go false h = concat-map (λ x. typeByte OfItem (kind x) ∷ pay x) (λ (x : List ℕ × A). x .1) xs
 
@@ -54,13 +57,17 @@ module _ {A : Type 0} (kind : A → Kind) (pay : A → List ℕ) where
   map-ids (x ∷ xs) = rw (map-ids xs)
 
   pub node-packs : (packs : A → List ℕ) (named : Bool) (xs : List (List ℕ × A))
-      → nodePacks kind pay packs (nodeOf named xs) ≡ packed named (shared (ids kind xs)) (length xs) (length (body named kind pay xs)) ∷ concat (λ x. packs (x .1)) xs
-  node-packs packs true xs = ap (λ (z : List ℕ). packed true (shared (ids kind xs)) (length xs) (length z) ∷ concat (λ (x : List ℕ × A). packs (x .1)) xs) (object-body xs)
+      → nodePacks kind pay packs (nodeOf named xs) ≡ packed named (shared (ids kind xs)) (length xs) (length (body named kind pay xs))
+      ∷ concat (λ x. packs (x .1)) xs
+  node-packs packs true xs =
+      ap (λ (z : List ℕ). packed true (shared (ids kind xs)) (length xs) (length z) ∷ concat (λ (x : List ℕ × A). packs (x .1)) xs) (object-body xs)
   node-packs packs false xs =
-      ap (λ (z : List ℕ). packed false (shared (map (λ x. id (kind x)) (map (λ (x : List ℕ × A). x .1) xs))) (length (map (λ (x : List ℕ × A). x .1) xs)) (length z) ∷ concat packs (map (λ (x : List ℕ × A). x .1) xs)) (array-body xs)
+      ap (λ (z : List ℕ). packed false (shared (map (λ x. id (kind x)) (map (λ (x : List ℕ × A). x .1) xs))) (length (map (λ (x : List ℕ × A). x .1) xs))
+      (length z) ∷ concat packs (map (λ (x : List ℕ × A). x .1) xs)) (array-body xs)
       ∙ rw (map-ids xs, length-map (λ (x : List ℕ × A). x .1) xs, concat-map packs (λ (x : List ℕ × A). x .1) xs)
 
-  pub node-sizes : (sizes : A → List ℕ) (named : Bool) (xs : List (List ℕ × A)) → nodeSizes kind pay sizes (nodeOf named xs) ≡ length (body named kind pay xs) ∷ concat (λ x. sizes (x .1)) xs
+  pub node-sizes : (sizes : A → List ℕ) (named : Bool) (xs : List (List ℕ × A))
+      → nodeSizes kind pay sizes (nodeOf named xs) ≡ length (body named kind pay xs) ∷ concat (λ x. sizes (x .1)) xs
   node-sizes sizes true xs = ap (λ (z : List ℕ). length z ∷ concat (λ (x : List ℕ × A). sizes (x .1)) xs) (object-body xs)
   node-sizes sizes false xs =
       rw (concat-map sizes (λ (x : List ℕ × A). x .1) xs) (ap (λ (z : List ℕ). length z ∷ concat (λ (x : List ℕ × A). sizes (x .1)) xs) (array-body xs))
@@ -70,21 +77,26 @@ module _ {A : Type 0} (kind : A → Kind) (pay : A → List ℕ) where
   abbrev pub plain : Bool → List (List ℕ × A) → List ℕ
   plain named xs = concat (λ x. namePart named (x .0) ++ pay (x .1)) xs
 
-  typed-length : (named : Bool) (u : Bool) (xs : List (List ℕ × A)) → length (concat (fieldPart named (not u) kind pay) xs) ≡ cond u 0 (length xs) + length (plain named xs)
+  typed-length : (named : Bool) (u : Bool) (xs : List (List ℕ × A))
+      → length (concat (fieldPart named (not u) kind pay) xs) ≡ cond u 0 (length xs) + length (plain named xs)
   unfolding typePart
   typed-length named true xs = sym (zero-add (length (plain named xs)))
   typed-length named false [] = refl
   typed-length named false (x ∷ xs) = simp length-append (omega (arith, typed-length named false xs))
 
-  pub body-length : (named : Bool) (xs : List (List ℕ × A)) → length (body named kind pay xs) ≡ sizeBy named (shared (ids kind xs)) (length xs) (length (plain named xs))
+  pub body-length : (named : Bool) (xs : List (List ℕ × A))
+      → length (body named kind pay xs) ≡ sizeBy named (shared (ids kind xs)) (length xs) (length (plain named xs))
   unfolding sizeBy sharedPart
-  body-length named xs = rw (length-append, length-append, typed-length named (uniform named (shared (ids kind xs))) xs) (go (uniform named (shared (ids kind xs))))
+  body-length named xs =
+      rw (length-append, length-append, typed-length named (uniform named (shared (ids kind xs))) xs) (go (uniform named (shared (ids kind xs))))
     where
-      go : (u : Bool) → length (countPart named (length xs)) + (length (cond u ((flags (sharedMark named) + shared (ids kind xs)) ∷ []) []) + (cond u 0 (length xs) + length (plain named xs))) ≡ length (countPart named (length xs)) + cond u 1 (length xs) + length (plain named xs)
+      go : (u : Bool) → length (countPart named (length xs)) + (length (cond u ((flags (sharedMark named) + shared (ids kind xs)) ∷ []) [])
+          + (cond u 0 (length xs) + length (plain named xs))) ≡ length (countPart named (length xs)) + cond u 1 (length xs) + length (plain named xs)
       go true = omega arith
       go false = omega arith
 
-  pub payload-length : (named : Bool) (xs : List (List ℕ × A)) → length (nodePayload kind pay (nodeOf named xs)) ≡ length (encoded (length (body named kind pay xs))) + length (body named kind pay xs)
+  pub payload-length : (named : Bool) (xs : List (List ℕ × A))
+      → length (nodePayload kind pay (nodeOf named xs)) ≡ length (encoded (length (body named kind pay xs))) + length (body named kind pay xs)
   payload-length named xs = ap length (node-payload named xs) ∙ length-append (encoded (length (body named kind pay xs))) (body named kind pay xs)
 
 pub count-le : (b : Bool) (n : ℕ) → length (countPart b n) ≤ 9

@@ -25,7 +25,8 @@ use Rattle.frames.specs.Container.{namePart}
 use Rattle.frames.specs.FramePieces.{modeOf}
 use Rattle.frames.specs.Describe.{close, nodeFrames, framesOf, listOf}
 use Rattle.frames.proofs.Flaws.{untrue}
-use Rattle.frames.proofs.FramedFields.{NameFits, Framed, NamesFit, field, nameless, leaf-framed, front-framed, container-framed, nameless-fit, nameless-within, nameless-frames, nameless-node, named-frames}
+use Rattle.frames.proofs.FramedFields.{NameFits, Framed, NamesFit, field, nameless, leaf-framed, front-framed, container-framed, nameless-fit}
+use Rattle.frames.proofs.FramedFields.{nameless-within, nameless-frames, nameless-node, named-frames}
 
 -- ---- names that are not equal to one another are each none of those before
 
@@ -48,7 +49,8 @@ apart-more : (used ns : List (List ℕ)) (m : List ℕ) → any (equal m) ns ≡
 apart-more used [] m h a = tt
 apart-more used (n ∷ ns) m h a = let i = or-false (equal m n) (any (equal m) ns) h in (rw (equal-sym m n (i .0), a .0), apart-more used ns m (i .1) (a .1))
 
-names-fit : {A : Type 0} (used : List (List ℕ)) (xs : List (List ℕ × A)) → All (λ x. NameWithin (x .0)) xs → Apart used (map (λ x. x .0) xs) → twins (map (λ x. x .0) xs) ≡ false → NamesFit true used xs
+names-fit : {A : Type 0} (used : List (List ℕ)) (xs : List (List ℕ × A)) → All (λ x. NameWithin (x .0)) xs → Apart used (map (λ x. x .0) xs)
+    → twins (map (λ x. x .0) xs) ≡ false → NamesFit true used xs
 unfolding twins
 names-fit used [] w a h = tt
 names-fit used (x ∷ xs) w a h =
@@ -70,8 +72,8 @@ node-begins f name (array xs) = (id Array, name ++ (concat (f []) xs ++ close), 
 node-begins f name (object xs) = (id Object, name ++ (concat (λ x. f (withSize (x .0)) (x .1)) xs ++ close), refl, refl)
 
 module _ {A : Type 0} (W : A → Type 0) (p : FrameReader A) (f : List ℕ → A → List ℕ) (g : Framed W p f) where
-  node-reads : (named : Bool) (used : List (List ℕ)) (n : List ℕ) (t : Node A) (r : List ℕ) → NodeWithin W t → NameFits named used n → length (nodeFrames f (namePart named n) t) < 2 ^ 64
-      → frame p (modeOf named used) (nodeFrames f (namePart named n) t ++ r) ≡ framed (n, t) r
+  node-reads : (named : Bool) (used : List (List ℕ)) (n : List ℕ) (t : Node A) (r : List ℕ) → NodeWithin W t → NameFits named used n
+      → length (nodeFrames f (namePart named n) t) < 2 ^ 64 → frame p (modeOf named used) (nodeFrames f (namePart named n) t ++ r) ≡ framed (n, t) r
   unfolding payload
   node-reads named used n (atom v) r w v′ l =
       let m : length (namePart named n) + length (leafPayload v) < 2 ^ 64 = omega (arith, length-append (namePart named n) (leafPayload v)) in

@@ -60,13 +60,15 @@ float64-within b l = go (isNan64 b) refl
 
 -- a Float64 that Float32 holds is one too
 double-within : (s : List ℕ) → Bytes s → {v : Leaf} {fs : List Flaw} {r : List ℕ} → readFloat64 s ≡ got v fs r → LeafWithin v
-double-within s w {v} h = bind-got (fixed 8 s) _ h λ b es q gs e k ef. raise-got (holds (fromBytes b)) Wide (got (float (float64 (fromBytes b))) [] q) k λ hs i.
+double-within s w {v} h =
+    bind-got (fixed 8 s) _ h λ b es q gs e k ef. raise-got (holds (fromBytes b)) Wide (got (float (float64 (fromBytes b))) [] q) k λ hs i.
     let f = fixed-bytes 8 s w e in
     let z : float (float64 (fromBytes b)) ≡ v = cc in
     subst LeafWithin z (float64-within (fromBytes b) (bits-lt 8 b (f .0) (f .1)))
 
 -- refusals 2 and 5: what they do not meet is a leaf within the limits
-pub leaf-within : (k : Kind) (p : List ℕ → Out Leaf) → payload k ≡ leaf p → (f s : List ℕ) → Bytes s → {v : Leaf} {r : List ℕ} → leafFound f (p s) ≡ framed v r → LeafWithin v
+pub leaf-within : (k : Kind) (p : List ℕ → Out Leaf) → payload k ≡ leaf p → (f s : List ℕ) → Bytes s → {v : Leaf} {r : List ℕ}
+    → leafFound f (p s) ≡ framed v r → LeafWithin v
 unfolding payload
 leaf-within k p e f s w {v} {r} h = leaf-found f (p s) h λ fs y a b c. go fs y a b c (eqb (id k) 11) refl
   where
@@ -77,7 +79,8 @@ leaf-within k p e f s w {v} {r} h = leaf-found f (p s) h λ fs y a b c. go fs y 
     plain items y o i = clash cc
     plain sharedItems y o i = clash cc
 
-    go : (fs : List Flaw) → p s ≡ got v fs r → has Long fs ≡ false → has Low fs ≡ false → has NotUtf8 fs ≡ false → (x : Bool) → eqb (id k) 11 ≡ x → LeafWithin v
+    go : (fs : List Flaw) → p s ≡ got v fs r → has Long fs ≡ false → has Low fs ≡ false → has NotUtf8 fs ≡ false → (x : Bool)
+        → eqb (id k) 11 ≡ x → LeafWithin v
     go fs y a b c true i =
         let t : payload Float64 ≡ leaf p = rw (kind-double k (eqb-true (id k) 11 i)) at e in
         let u : readFloat64 ≡ p = cc in
@@ -115,7 +118,8 @@ name-fresh : (f : List ℕ) (used : List (List ℕ)) (o : Out (List ℕ)) {n q :
 name-fresh f used (fault k) h = never h
 name-fresh f used (got m fs r) {n} {q} h = go (has Long fs) (has Blank fs) (has NotUtf8 fs) (any (equal m) used) refl h
   where
-    go : (a b c d : Bool) → any (equal m) used ≡ d → cond a (refused BadFrame f) (cond b (refused EmptyName f) (cond c (refused NotText f) (cond d (refused NameUsed f) (framed m r)))) ≡ framed n q
+    go : (a b c d : Bool) → any (equal m) used ≡ d
+        → cond a (refused BadFrame f) (cond b (refused EmptyName f) (cond c (refused NotText f) (cond d (refused NameUsed f) (framed m r)))) ≡ framed n q
         → any (equal n) used ≡ false
     go true b c d e h = never h
     go false true c d e h = never h
@@ -139,7 +143,8 @@ pub record FieldWithin {A : Type 0} (W : A → Type 0) (named : Bool) (used : Li
 
 -- what is read is within the limits, and bytes are left
 abbrev pub Describes : {A : Type 0} → (A → Type 0) → FrameReader A → Type 0
-Describes {A} W p = (named : Bool) (used : List (List ℕ)) (s : List ℕ) (x : List ℕ × A) (r : List ℕ) → Bytes s → p (modeOf named used) s ≡ framed x r → FieldWithin W named used x × Bytes r
+Describes {A} W p = (named : Bool) (used : List (List ℕ)) (s : List ℕ) (x : List ℕ × A) (r : List ℕ) → Bytes s → p (modeOf named used) s ≡ framed x r
+    → FieldWithin W named used x × Bytes r
 
 pub record FieldsWithin {A : Type 0} (W : A → Type 0) (named : Bool) (used : List (List ℕ)) (xs : List (List ℕ × A)) : Type 0 where
   pub within : All (λ x. W (x .1)) xs
@@ -151,13 +156,16 @@ all-map P f [] h = tt
 all-map P f (x ∷ xs) h = (h .0, all-map P f xs (h .1))
 
 module _ {A : Type 0} (W : A → Type 0) (p : FrameReader A) (g : Describes W p) where
-  contents-within : (named : Bool) (n : ℕ) (used : List (List ℕ)) (s : List ℕ) (xs : List (List ℕ × A)) (r : List ℕ) → Bytes s → contentsBy named p n used s ≡ framed xs r → FieldsWithin W named used xs
+  contents-within : (named : Bool) (n : ℕ) (used : List (List ℕ)) (s : List ℕ) (xs : List (List ℕ × A)) (r : List ℕ) → Bytes s
+      → contentsBy named p n used s ≡ framed xs r → FieldsWithin W named used xs
   contents-within named zero used s xs r w h = never h
   contents-within named (suc n) used [] xs r w h = never h
   contents-within named (suc n) used (b ∷ s) xs r w h = go (λ v q ys t y e. contents-within named n v q ys t y e) (eqb b 0) h
     where
-      go : ((v : List (List ℕ)) (q : List ℕ) (ys : List (List ℕ × A)) (t : List ℕ) → Bytes q → contentsBy named p n v q ≡ framed ys t → FieldsWithin W named v ys) → (z : Bool)
-          → cond z (framed [] s) (next (p (modeOf named used) (b ∷ s)) λ x r. next (contentsBy named p n (x .0 ∷ used) r) λ xs q. framed (x ∷ xs) q) ≡ framed xs r → FieldsWithin W named used xs
+      go : ((v : List (List ℕ)) (q : List ℕ) (ys : List (List ℕ × A)) (t : List ℕ) → Bytes q → contentsBy named p n v q ≡ framed ys t
+          → FieldsWithin W named v ys) → (z : Bool)
+          → cond z (framed [] s) (next (p (modeOf named used) (b ∷ s)) λ x r. next (contentsBy named p n (x .0 ∷ used) r) λ xs q. framed (x ∷ xs) q)
+          ≡ framed xs r → FieldsWithin W named used xs
       go ih true h = let e : [] ≡ xs = cc in rw (← e) (record { within = tt; name = λ t. tt; fresh = λ t. tt })
       go ih false h =
           next-got (p (modeOf named used) (b ∷ s)) _ h λ x q e h₁. next-got (contentsBy named p n (x .0 ∷ used) q) _ h₁ λ ys t e₁ h₂.
@@ -167,10 +175,12 @@ module _ {A : Type 0} (W : A → Type 0) (p : FrameReader A) (g : Describes W p)
           rw (← z) (record { within = (a .0 .within, i .within); name = λ t. (a .0 .name t, i .name t); fresh = λ t. (a .0 .fresh t, i .fresh t) })
 
   container-within : (b : Bool) (xs : List (List ℕ × A)) → FieldsWithin W b [] xs → NodeWithin W (nodeOf b xs)
-  container-within true xs f = (all-both (λ x. NameWithin (x .0)) (λ x. W (x .1)) xs (f .name refl) (f .within), fresh-twins [] (map (λ x. x .0) xs) (f .fresh refl))
+  container-within true xs f =
+      (all-both (λ x. NameWithin (x .0)) (λ x. W (x .1)) xs (f .name refl) (f .within), fresh-twins [] (map (λ x. x .0) xs) (f .fresh refl))
   container-within false xs f = all-map W (λ x. x .1) xs (f .within)
 
-  node-within : (named : Bool) (used : List (List ℕ)) (s : List ℕ) (x : List ℕ × Node A) (r : List ℕ) → Bytes s → frame p (modeOf named used) s ≡ framed x r → FieldWithin (NodeWithin W) named used x
+  node-within : (named : Bool) (used : List (List ℕ)) (s : List ℕ) (x : List ℕ × Node A) (r : List ℕ) → Bytes s → frame p (modeOf named used) s ≡ framed x r
+      → FieldWithin (NodeWithin W) named used x
   unfolding namePart
   node-within named used s x r w h = frame-case p named used s w h λ k q e f i.
       let wq = bytes-right s (id k ∷ namePart named (x .0)) q w (f .is) in
@@ -186,7 +196,10 @@ module _ {A : Type 0} (W : A → Type 0) (p : FrameReader A) (g : Describes W p)
 pub read-within : (d : ℕ) → Describes (Within d) (readFrames d)
 unfolding readFrames
 read-within zero = λ named used s x r w h. never h
-read-within (suc d) = λ named used s x r w h. (node-within (Within d) (readFrames d) (read-within d) named used s x r w h, let u = read-used (suc d) named used s x r w h in bytes-right s (u .pre) r w (u .all))
+read-within (suc d) = λ named used s x r w h. (
+  node-within (Within d) (readFrames d) (read-within d) named used s x r w h,
+  let u = read-used (suc d) named used s x r w h in bytes-right s (u .pre) r w (u .all),
+)
 
 -- A list that is read to its end gives a tree within the limits
 pub frames-within : (d : ℕ) (list : List ℕ) → Bytes list → (t : Tree d) (r : List ℕ) → readList d list ≡ framed t r → Within d t

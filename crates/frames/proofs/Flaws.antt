@@ -14,7 +14,9 @@ use Rattle.number.specs.declared.VarUInt.{VarUInt}
 use Rattle.number.specs.declared.VarUInt.the-variants.{Cut, Whole}
 use Rattle.text.specs.Utf8.{isText}
 use Rattle.format.specs.declared.Kind.{Kind}
-use Rattle.format.specs.declared.Kind.the-variants.{Null, Object, UniformObject, Array, UniformArray, Binary, String, IntegerPositive, IntegerNegative, Float32, Float64, False, True, ObjectAttachment, BinaryAttachment, Hash, Uuid, DateTime, TimeSpan, ObjectId, CustomById, CustomByName}
+use Rattle.format.specs.declared.Kind.the-variants.{Null, Object, UniformObject, Array, UniformArray, Binary, String, IntegerPositive, IntegerNegative}
+use Rattle.format.specs.declared.Kind.the-variants.{Float32, Float64, False, True, ObjectAttachment, BinaryAttachment, Hash, Uuid, DateTime, TimeSpan}
+use Rattle.format.specs.declared.Kind.the-variants.{ObjectId, CustomById, CustomByName}
 use Rattle.format.specs.declared.Stop.the-variants.{Early}
 use Rattle.format.specs.Kinds.{id}
 use Rattle.format.specs.Mask.{has}
@@ -22,7 +24,8 @@ use Rattle.format.specs.declared.Flaw.{Flaw}
 use Rattle.format.specs.declared.Flaw.the-variants.{Twin, Blank, Long, Low, Wide, NotUtf8, NotUniform}
 use Rattle.format.specs.Parse.{Out, fault, got, withFlaws, bind, raise, make, whole, number, readVarUInt, fixed, sized, rest}
 use Rattle.format.specs.Names.{isEmpty, readText, readName}
-use Rattle.format.specs.Tree.{Leaf, integer, float, binary, string, objectAttachment, binaryAttachment, hash, uuid, objectId, dateTime, timeSpan, customById, customByName}
+use Rattle.format.specs.Tree.{Leaf, integer, float, binary, string, objectAttachment, binaryAttachment, hash, uuid, objectId, dateTime, timeSpan, customById}
+use Rattle.format.specs.Tree.{customByName}
 use Rattle.format.specs.Payload.{float32, readCustomById, readCustomByName, Payload, leaf, fields, sharedFields, items, sharedItems, payload}
 
 pub untrue : {X : Type 0} → false ≡ true → X
@@ -80,7 +83,8 @@ module _ (ok : Flaw → Bool) where
         go (Whole v n m) = only-raise (not m) Long (got v [] (drop n s)) e tt
 
     only-sized : {A : Type 0} (p : List ℕ → Out A) → ((s : List ℕ) → Only ok (p s)) → (s : List ℕ) → Only ok (sized p s)
-    only-sized p f s = only-bind (readVarUInt s) (λ n r. cond (ltb (length r) n) (fault Early) (whole (p (take n r)) (drop n r))) (only-number s) λ n r. go n r (ltb (length r) n)
+    only-sized p f s = only-bind (readVarUInt s) (λ n r. cond (ltb (length r) n) (fault Early) (whole (p (take n r)) (drop n r))) (only-number s) λ n r.
+        go n r (ltb (length r) n)
       where
         go : (n : ℕ) (r : List ℕ) (b : Bool) → Only ok (cond b (fault Early) (whole (p (take n r)) (drop n r)))
         go n r true = tt
@@ -91,10 +95,12 @@ module _ (ok : Flaw → Bool) where
 
     module _ (i : ok NotUtf8 ≡ true) where
       only-text : (s : List ℕ) → Only ok (readText s)
-      only-text s = only-bind (sized rest s) (λ t r. raise (not (isText t)) NotUtf8 (got t [] r)) (only-bytes s) (λ t r. only-raise (not (isText t)) NotUtf8 (got t [] r) i tt)
+      only-text s = only-bind (sized rest s) (λ t r. raise (not (isText t)) NotUtf8 (got t [] r)) (only-bytes s)
+          (λ t r. only-raise (not (isText t)) NotUtf8 (got t [] r) i tt)
 
       only-name : ok Blank ≡ true → (s : List ℕ) → Only ok (readName s)
-      only-name j s = only-bind (readText s) (λ n r. raise (isEmpty n) Blank (got n [] r)) (only-text s) (λ n r. only-raise (isEmpty n) Blank (got n [] r) j tt)
+      only-name j s =
+          only-bind (readText s) (λ n r. raise (isEmpty n) Blank (got n [] r)) (only-text s) (λ n r. only-raise (isEmpty n) Blank (got n [] r) j tt)
 
       -- a leaf that is no Float64
       abbrev PlainBy : Payload → Type 0
@@ -114,7 +120,8 @@ module _ (ok : Flaw → Bool) where
       only-leaf j Binary h = λ s. only-make binary (sized rest s) (only-bytes s)
       only-leaf j String h = λ s. only-make string (readText s) (only-text s)
       only-leaf j IntegerPositive h = λ s. only-make (λ m. integer (pos m)) (readVarUInt s) (only-number s)
-      only-leaf j IntegerNegative h = λ s. only-bind (readVarUInt s) (λ m r. raise (not (ltb m (2 ^ 63))) Low (got (integer (negsuc m)) [] r)) (only-number s) (λ m r. only-raise (not (ltb m (2 ^ 63))) Low (got (integer (negsuc m)) [] r) j tt)
+      only-leaf j IntegerNegative h = λ s. only-bind (readVarUInt s) (λ m r. raise (not (ltb m (2 ^ 63))) Low (got (integer (negsuc m)) [] r)) (only-number s)
+          (λ m r. only-raise (not (ltb m (2 ^ 63))) Low (got (integer (negsuc m)) [] r) j tt)
       only-leaf j Float32 h = λ s. only-make (λ b. float (float32 (fromBytes b))) (fixed 4 s) (only-fixed 4 s)
       only-leaf j Float64 h = absurd (h refl)
       only-leaf j False h = λ s. tt
@@ -126,8 +133,10 @@ module _ (ok : Flaw → Bool) where
       only-leaf j DateTime h = λ s. only-make (λ b. dateTime (fromTwos (fromBytes b))) (fixed 8 s) (only-fixed 8 s)
       only-leaf j TimeSpan h = λ s. only-make (λ b. timeSpan (fromTwos (fromBytes b))) (fixed 8 s) (only-fixed 8 s)
       only-leaf j ObjectId h = λ s. only-make objectId (fixed 12 s) (only-fixed 12 s)
-      only-leaf j CustomById h = λ s. only-sized readCustomById (λ b. only-bind (readVarUInt b) (λ n r. make (customById n) (rest r)) (only-number b) (λ n r. tt)) s
-      only-leaf j CustomByName h = λ s. only-sized readCustomByName (λ b. only-bind (readText b) (λ n r. make (customByName n) (rest r)) (only-text b) (λ n r. tt)) s
+      only-leaf j CustomById h =
+          λ s. only-sized readCustomById (λ b. only-bind (readVarUInt b) (λ n r. make (customById n) (rest r)) (only-number b) (λ n r. tt)) s
+      only-leaf j CustomByName h =
+          λ s. only-sized readCustomByName (λ b. only-bind (readText b) (λ n r. make (customByName n) (rest r)) (only-text b) (λ n r. tt)) s
 
 -- ---- none of them
 
@@ -162,7 +171,8 @@ okLeaf Wide = false
 okLeaf NotUtf8 = true
 okLeaf NotUniform = false
 
-pub name-clean : (s : List ℕ) {n : List ℕ} {fs : List Flaw} {r : List ℕ} → readName s ≡ got n fs r → has Long fs ≡ false → has Blank fs ≡ false → has NotUtf8 fs ≡ false → fs ≡ []
+pub name-clean : (s : List ℕ) {n : List ℕ} {fs : List Flaw} {r : List ℕ} → readName s ≡ got n fs r → has Long fs ≡ false → has Blank fs ≡ false
+    → has NotUtf8 fs ≡ false → fs ≡ []
 name-clean s {n} {fs} {r} h a b c = none-of okName fs (go (readName s) h (only-name okName refl refl refl s)) by
   where
     go : (o : Out (List ℕ)) → o ≡ got n fs r → Only okName o → Passing okName fs
@@ -178,7 +188,8 @@ name-clean s {n} {fs} {r} h a b c = none-of okName fs (go (readName s) h (only-n
     by NotUtf8 e = c
     by NotUniform e = untrue e
 
-pub leaf-clean : (k : Kind) (p : List ℕ → Out Leaf) → (id k ≡ 11 → ⊥) → payload k ≡ leaf p → (s : List ℕ) {v : Leaf} {fs : List Flaw} {r : List ℕ} → p s ≡ got v fs r → has Long fs ≡ false → has Low fs ≡ false → has NotUtf8 fs ≡ false → fs ≡ []
+pub leaf-clean : (k : Kind) (p : List ℕ → Out Leaf) → (id k ≡ 11 → ⊥) → payload k ≡ leaf p → (s : List ℕ) {v : Leaf} {fs : List Flaw} {r : List ℕ}
+    → p s ≡ got v fs r → has Long fs ≡ false → has Low fs ≡ false → has NotUtf8 fs ≡ false → fs ≡ []
 leaf-clean k p ne e s {v} {fs} {r} h a b c = none-of okLeaf fs (at (payload k) e (only-leaf okLeaf refl refl refl k ne)) by
   where
     go : (o : Out Leaf) → o ≡ got v fs r → Only okLeaf o → Passing okLeaf fs

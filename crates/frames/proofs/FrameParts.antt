@@ -39,8 +39,10 @@ name-found : (f : List ℕ) (used : List (List ℕ)) (n : List ℕ) (fs : List F
     → (r ≡ q) × ((f′ q′ : List ℕ) → nameFound f′ used (got n fs q′) ≡ framed m q′)
 name-found f used n fs r {m} {q} h = go (has Long fs) (has Blank fs) (has NotUtf8 fs) (any (equal n) used) h
   where
-    go : (a b c d : Bool) → cond a (refused BadFrame f) (cond b (refused EmptyName f) (cond c (refused NotText f) (cond d (refused NameUsed f) (framed n r)))) ≡ framed m q
-        → (r ≡ q) × ((f′ q′ : List ℕ) → cond a (refused BadFrame f′) (cond b (refused EmptyName f′) (cond c (refused NotText f′) (cond d (refused NameUsed f′) (framed n q′)))) ≡ framed m q′)
+    go : (a b c d : Bool)
+        → cond a (refused BadFrame f) (cond b (refused EmptyName f) (cond c (refused NotText f) (cond d (refused NameUsed f) (framed n r)))) ≡ framed m q
+        → (r ≡ q) × ((f′ q′ : List ℕ) → cond a (refused BadFrame f′)
+        (cond b (refused EmptyName f′) (cond c (refused NotText f′) (cond d (refused NameUsed f′) (framed n q′)))) ≡ framed m q′)
     go true b c d h = never h
     go false true c d h = never h
     go false false true d h = never h
@@ -61,11 +63,13 @@ name-got f (some used) s {m} {q} h = go (readName s) refl h
         let g = name-found f used n fs r h in
         (w .0, w .1 ∙ ap (λ t. w .0 ++ t) (g .0), λ f′ q′. rw (w .2 q′) (g .1 f′ q′))
 
-pub name-refused : (f : List ℕ) (names : Option (List (List ℕ))) (s : List ℕ) (n : Refusal) (r : List ℕ) → frameName f names s ≡ refused n r → OfFrame n × (f ≡ r)
+pub name-refused : (f : List ℕ) (names : Option (List (List ℕ))) (s : List ℕ) (n : Refusal) (r : List ℕ)
+    → frameName f names s ≡ refused n r → OfFrame n × (f ≡ r)
 name-refused f none s n r h = never (sym h)
 name-refused f (some used) s n r h = go (readName s) h
   where
-    all : (m u : List ℕ) (a b c d : Bool) → cond a (refused BadFrame f) (cond b (refused EmptyName f) (cond c (refused NotText f) (cond d (refused NameUsed f) (framed m u)))) ≡ refused n r → OfFrame n × (f ≡ r)
+    all : (m u : List ℕ) (a b c d : Bool) → cond a (refused BadFrame f)
+        (cond b (refused EmptyName f) (cond c (refused NotText f) (cond d (refused NameUsed f) (framed m u)))) ≡ refused n r → OfFrame n × (f ≡ r)
     all m u true b c d h = carried BadFrame tt h
     all m u false true c d h = carried EmptyName tt h
     all m u false false true d h = carried NotText tt h
@@ -94,7 +98,8 @@ leaf-local k p i s v fs r h =
         let f : es ≡ fs = sym (append-nil es) ∙ sym (ef ∙ ap (λ t. es ++ t) g) ∙ append-nil fs in
         rw (← x, ← y, ← f) e
 
-leaf-found : (f : List ℕ) (v : Leaf) (fs : List Flaw) (r : List ℕ) {u : Leaf} {q : List ℕ} → leafFound f (got v fs r) ≡ framed u q → (r ≡ q) × ((f′ q′ : List ℕ) → leafFound f′ (got v fs q′) ≡ framed u q′)
+leaf-found : (f : List ℕ) (v : Leaf) (fs : List Flaw) (r : List ℕ) {u : Leaf} {q : List ℕ} → leafFound f (got v fs r) ≡ framed u q
+    → (r ≡ q) × ((f′ q′ : List ℕ) → leafFound f′ (got v fs q′) ≡ framed u q′)
 leaf-found f v fs r {u} {q} h = go (has Long fs || has Low fs) (has NotUtf8 fs) h
   where
     go : (a b : Bool) → cond a (refused BadFrame f) (cond b (refused NotText f) (framed v r)) ≡ framed u q
@@ -121,7 +126,8 @@ module _ {A : Type 0} (p : FrameReader A) (loc : (names : Option (List (List ℕ
   abbrev PayloadGot : Payload → List ℕ → Node A → List ℕ → Type 0
   PayloadGot how s t r = (v : List ℕ) × (s ≡ v ++ r) × ((f′ q : List ℕ) → framePayload p f′ how (v ++ q) ≡ framed t q)
 
-  pub payload-got : (f : List ℕ) (how : Payload) (s : List ℕ) {t : Node A} {r : List ℕ} → payload k ≡ how → framePayload p f how s ≡ framed t r → PayloadGot how s t r
+  pub payload-got : (f : List ℕ) (how : Payload) (s : List ℕ) {t : Node A} {r : List ℕ} → payload k ≡ how
+      → framePayload p f how s ≡ framed t r → PayloadGot how s t r
   payload-got f (leaf g) s {t} {r} i h = next-got (leafFound f (g s)) _ h λ v q e j. go (g s) refl v q e j
     where
       go : (o : Out Leaf) → g s ≡ o → (v : Leaf) (q : List ℕ) → leafFound f o ≡ framed v q → framed (atom v) q ≡ framed t r → PayloadGot (leaf g) s t r
@@ -148,23 +154,30 @@ module _ {A : Type 0} (p : FrameReader A) (loc : (names : Option (List (List ℕ
   module _ (ref : (names : Option (List (List ℕ))) → Judges (p names)) where
     -- at the frame itself, because the list ends, or at a frame in a container
     abbrev PayloadRefused : List ℕ → Payload → List ℕ → Refusal → List ℕ → Type 0
-    PayloadRefused f how s n r = (OfFrame n × (f ≡ r)) ⊎ (((n ≡ ListEnds) × (r ≡ [])) ⊎ (OfFrame n × ((w : List ℕ) × (s ≡ w ++ r) × (1 ≤ length r) × ((f′ : List ℕ) → framePayload p f′ how w ≡ refused ListEnds []))))
+    PayloadRefused f how s n r = (OfFrame n × (f ≡ r)) ⊎ (((n ≡ ListEnds) × (r ≡ []))
+        ⊎ (OfFrame n × ((w : List ℕ) × (s ≡ w ++ r) × (1 ≤ length r) × ((f′ : List ℕ) → framePayload p f′ how w ≡ refused ListEnds []))))
 
-    pub payload-refused : (f : List ℕ) (how : Payload) (s : List ℕ) (n : Refusal) (r : List ℕ) → framePayload p f how s ≡ refused n r → PayloadRefused f how s n r
+    pub payload-refused : (f : List ℕ) (how : Payload) (s : List ℕ) (n : Refusal) (r : List ℕ) → framePayload p f how s ≡ refused n r
+        → PayloadRefused f how s n r
     payload-refused f (leaf g) s n r h = next-refused (leafFound f (g s)) _ h (λ e. inl (leaf-refused f (g s) n r e)) (λ v q e j. never (sym j))
     payload-refused f fields s n r h = next-refused (untilClose (λ used. p (some used)) (length s) [] s) _ h
-        (λ e. inr (at (until-refused (λ used. p (some used)) (λ used. loc (some used)) (λ used. ref (some used)) (length s) [] s n r e))) (λ xs q e j. never (sym j))
+        (λ e. inr (at (until-refused (λ used. p (some used)) (λ used. loc (some used)) (λ used. ref (some used)) (length s) [] s n r e)))
+        (λ xs q e j. never (sym j))
       where
-        at : ((n ≡ ListEnds) × (r ≡ [])) ⊎ (OfFrame n × ((w : List ℕ) × (s ≡ w ++ r) × (1 ≤ length r) × ((k : ℕ) → untilClose (λ used. p (some used)) k [] w ≡ refused ListEnds [])))
-            → ((n ≡ ListEnds) × (r ≡ [])) ⊎ (OfFrame n × ((w : List ℕ) × (s ≡ w ++ r) × (1 ≤ length r) × ((f′ : List ℕ) → framePayload p f′ fields w ≡ refused ListEnds [])))
+        at : ((n ≡ ListEnds) × (r ≡ []))
+            ⊎ (OfFrame n × ((w : List ℕ) × (s ≡ w ++ r) × (1 ≤ length r) × ((k : ℕ) → untilClose (λ used. p (some used)) k [] w ≡ refused ListEnds [])))
+            → ((n ≡ ListEnds) × (r ≡ []))
+            ⊎ (OfFrame n × ((w : List ℕ) × (s ≡ w ++ r) × (1 ≤ length r) × ((f′ : List ℕ) → framePayload p f′ fields w ≡ refused ListEnds [])))
         at (inl i) = inl i
         at (inr i) = inr (i .0, (i .1 .0, i .1 .1, i .1 .2, λ f′. rw (i .1 .3 (length (i .1 .0)))))
     payload-refused f sharedFields s n r h = inl (carried BadFrame tt h)
     payload-refused f items s n r h = next-refused (untilClose (λ used. p none) (length s) [] s) _ h
         (λ e. inr (at (until-refused (λ used. p none) (λ used. loc none) (λ used. ref none) (length s) [] s n r e))) (λ xs q e j. never (sym j))
       where
-        at : ((n ≡ ListEnds) × (r ≡ [])) ⊎ (OfFrame n × ((w : List ℕ) × (s ≡ w ++ r) × (1 ≤ length r) × ((k : ℕ) → untilClose (λ used. p none) k [] w ≡ refused ListEnds [])))
-            → ((n ≡ ListEnds) × (r ≡ [])) ⊎ (OfFrame n × ((w : List ℕ) × (s ≡ w ++ r) × (1 ≤ length r) × ((f′ : List ℕ) → framePayload p f′ items w ≡ refused ListEnds [])))
+        at : ((n ≡ ListEnds) × (r ≡ []))
+            ⊎ (OfFrame n × ((w : List ℕ) × (s ≡ w ++ r) × (1 ≤ length r) × ((k : ℕ) → untilClose (λ used. p none) k [] w ≡ refused ListEnds [])))
+            → ((n ≡ ListEnds) × (r ≡ []))
+            ⊎ (OfFrame n × ((w : List ℕ) × (s ≡ w ++ r) × (1 ≤ length r) × ((f′ : List ℕ) → framePayload p f′ items w ≡ refused ListEnds [])))
         at (inl i) = inl i
         at (inr i) = inr (i .0, (i .1 .0, i .1 .1, i .1 .2, λ f′. rw (i .1 .3 (length (i .1 .0)))))
     payload-refused f sharedItems s n r h = inl (carried BadFrame tt h)

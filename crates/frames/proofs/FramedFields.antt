@@ -13,7 +13,8 @@ use Rattle.float.specs.Rule.{holds}
 use Rattle.format.specs.declared.Kind.{Kind}
 use Rattle.format.specs.declared.Kind.the-variants.{Float32, Float64}
 use Rattle.format.specs.Kinds.{id, any}
-use Rattle.format.specs.Tree.{Float, number, nan32, nan64, Leaf, null, bool, integer, float, binary, string, objectAttachment, binaryAttachment, hash, uuid, objectId, dateTime, timeSpan, customById, customByName, atom, LeafWithin, NameWithin}
+use Rattle.format.specs.Tree.{Float, number, nan32, nan64, Leaf, null, bool, integer, float, binary, string, objectAttachment, binaryAttachment, hash, uuid}
+use Rattle.format.specs.Tree.{objectId, dateTime, timeSpan, customById, customByName, atom, LeafWithin, NameWithin}
 use Rattle.format.specs.Payload.{payload, value, head}
 use Rattle.format.specs.Encoding.{withSize, concat, floatKind, leafKind, leafPayload}
 use Rattle.frames.specs.WriteList.{Frames, framed, next, isWritable, frameName, untilClose, framePayload, frame, FrameReader}
@@ -72,15 +73,18 @@ abbrev pub NameFits : Bool → List (List ℕ) → List ℕ → Type 0
 NameFits true used n = NameWithin n × (any (equal n) used ≡ false)
 NameFits false used n = n ≡ []
 
-name-framed : (f : List ℕ) (named : Bool) (used : List (List ℕ)) (n q : List ℕ) → NameFits named used n → length (namePart named n) < 2 ^ 64 → frameName f (modeOf named used) (namePart named n ++ q) ≡ framed n q
+name-framed : (f : List ℕ) (named : Bool) (used : List (List ℕ)) (n q : List ℕ) → NameFits named used n → length (namePart named n) < 2 ^ 64
+    → frameName f (modeOf named used) (namePart named n ++ q) ≡ framed n q
 unfolding namePart
 name-framed f true used n q w l = rw (name-rt n q (w .0) (inside-lt n l), w .1)
 name-framed f false used n q w l = rw w
 
 -- the front of a frame
-pub front-framed : {A : Type 0} (p : FrameReader A) (k : Kind) (named : Bool) (used : List (List ℕ)) (n q : List ℕ) → isWritable (payload k) ≡ true → NameFits named used n → length (namePart named n) < 2 ^ 64
+pub front-framed : {A : Type 0} (p : FrameReader A) (k : Kind) (named : Bool) (used : List (List ℕ)) (n q : List ℕ) → isWritable (payload k) ≡ true
+    → NameFits named used n → length (namePart named n) < 2 ^ 64
     → (s : List ℕ) → s ≡ namePart named n ++ q → frame p (modeOf named used) (id k ∷ s) ≡ next (framePayload p (id k ∷ s) (payload k) q) λ t u. framed (n, t) u
-front-framed p k named used n q g w l s e = rw (known-rt k, g) (rw (ap (frameName (id k ∷ s) (modeOf named used)) e ∙ name-framed (id k ∷ s) named used n q w l))
+front-framed p k named used n q g w l s e =
+    rw (known-rt k, g) (rw (ap (frameName (id k ∷ s) (modeOf named used)) e ∙ name-framed (id k ∷ s) named used n q w l))
 
 -- ---- the fields of a container
 
@@ -94,16 +98,16 @@ abbrev pub NamesFit : {A : Type 0} → Bool → List (List ℕ) → List (List �
 NamesFit named used [] = Unit {0}
 NamesFit named used (x ∷ xs) = NameFits named used (x .0) × NamesFit named (x .0 ∷ used) xs
 
-until-more : {A : Type 0} (q : List (List ℕ) → List ℕ → Frames (List ℕ × A)) (n : ℕ) (used : List (List ℕ)) (s : List ℕ) (b : ℕ) (t : List ℕ) → s ≡ b ∷ t → eqb b 0 ≡ false
-    → untilClose q (suc n) used s ≡ next (q used s) λ x r. next (untilClose q n (x .0 ∷ used) r) λ xs u. framed (x ∷ xs) u
+until-more : {A : Type 0} (q : List (List ℕ) → List ℕ → Frames (List ℕ × A)) (n : ℕ) (used : List (List ℕ)) (s : List ℕ) (b : ℕ) (t : List ℕ)
+    → s ≡ b ∷ t → eqb b 0 ≡ false → untilClose q (suc n) used s ≡ next (q used s) λ x r. next (untilClose q n (x .0 ∷ used) r) λ xs u. framed (x ∷ xs) u
 until-more q n used s b t e h = rw (e, h)
 
 module _ {A : Type 0} (W : A → Type 0) (p : FrameReader A) (f : List ℕ → A → List ℕ) (g : Framed W p f) where
   abbrev pub field : Bool → List ℕ × A → List ℕ
   field named x = f (namePart named (x .0)) (x .1)
 
-  contents-framed : (named : Bool) (xs : List (List ℕ × A)) (n : ℕ) (used : List (List ℕ)) (r : List ℕ) → All (λ x. W (x .1)) xs → NamesFit named used xs → length (concat (field named) xs) < 2 ^ 64 → length xs < n
-      → contentsBy named p n used (concat (field named) xs ++ (0 ∷ r)) ≡ framed xs r
+  contents-framed : (named : Bool) (xs : List (List ℕ × A)) (n : ℕ) (used : List (List ℕ)) (r : List ℕ) → All (λ x. W (x .1)) xs → NamesFit named used xs
+      → length (concat (field named) xs) < 2 ^ 64 → length xs < n → contentsBy named p n used (concat (field named) xs ++ (0 ∷ r)) ≡ framed xs r
   contents-framed named xs zero used r w v l m = absurd (omega arith)
   contents-framed named [] (suc n) used r w v l m = refl
   contents-framed named (x ∷ xs) (suc n) used r w v l m =
@@ -119,11 +123,13 @@ module _ {A : Type 0} (W : A → Type 0) (p : FrameReader A) (f : List ℕ → A
 
   -- the bound on how many there are is enough
   field-some : (named : Bool) (xs : List (List ℕ × A)) → length xs ≤ length (concat (field named) xs)
-  field-some named xs = length-concat (field named) xs (all-pure (λ x. 1 ≤ length (field named x)) (λ x. let i = g .begins (namePart named (x .0)) (x .1) in rw (i .2) (omega arith)) xs)
+  field-some named xs = length-concat (field named) xs
+      (all-pure (λ x. 1 ≤ length (field named x)) (λ x. let i = g .begins (namePart named (x .0)) (x .1) in rw (i .2) (omega arith)) xs)
 
-  pub container-framed : (named : Bool) (xs : List (List ℕ × A)) (r : List ℕ) → All (λ x. W (x .1)) xs → NamesFit named [] xs → length (concat (field named) xs) < 2 ^ 64
-      → (q : List ℕ) → q ≡ concat (field named) xs ++ (0 ∷ r) → contentsBy named p (length q) [] q ≡ framed xs r
-  container-framed named xs r w v l q e = rw e (contents-framed named xs (length (concat (field named) xs ++ (0 ∷ r))) [] r w v l (rw (length-append (concat (field named) xs) (0 ∷ r)) (omega (arith, field-some named xs))))
+  pub container-framed : (named : Bool) (xs : List (List ℕ × A)) (r : List ℕ) → All (λ x. W (x .1)) xs → NamesFit named [] xs
+      → length (concat (field named) xs) < 2 ^ 64 → (q : List ℕ) → q ≡ concat (field named) xs ++ (0 ∷ r) → contentsBy named p (length q) [] q ≡ framed xs r
+  container-framed named xs r w v l q e = rw e (contents-framed named xs (length (concat (field named) xs ++ (0 ∷ r))) [] r w v l
+      (rw (length-append (concat (field named) xs) (0 ∷ r)) (omega (arith, field-some named xs))))
 
   -- an array's items have no names
   abbrev pub nameless : List A → List (List ℕ × A)

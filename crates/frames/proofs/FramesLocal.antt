@@ -9,7 +9,8 @@ use mathlib.Core.List.{List, [], _∷_, _++_, append-assoc}
 use lib.ListN.{length, length-append}
 use lib.Dec.{eqb}
 use Rattle.frames.specs.declared.Refusal.{Refusal}
-use Rattle.frames.specs.declared.Refusal.the-variants.{ListEnds, BadFrame, EmptyName, NameUsed, NotText, TooDeep, NoneOpen, Complete, ListTooLong, FewWorkNumbers, EncodingTooLong}
+use Rattle.frames.specs.declared.Refusal.the-variants.{ListEnds, BadFrame, EmptyName, NameUsed, NotText, TooDeep, NoneOpen, Complete, ListTooLong}
+use Rattle.frames.specs.declared.Refusal.the-variants.{FewWorkNumbers, EncodingTooLong}
 use Rattle.frames.specs.WriteList.{Frames, refused, framed, next, untilClose}
 use Rattle.frames.proofs.FrontLaws.{never, next-got}
 
@@ -26,7 +27,8 @@ next-refused (framed a q) g h c k = k a q refl h
 
 -- at the front, and a byte at least
 abbrev pub LocalFrames : {A : Type 0} → (List ℕ → Frames A) → Type 0
-LocalFrames {A} p = (s : List ℕ) (a : A) (r : List ℕ) → p s ≡ framed a r → (w : List ℕ) × (s ≡ w ++ r) × (1 ≤ length w) × ((q : List ℕ) → p (w ++ q) ≡ framed a q)
+LocalFrames {A} p = (s : List ℕ) (a : A) (r : List ℕ) → p s ≡ framed a r
+    → (w : List ℕ) × (s ≡ w ++ r) × (1 ≤ length w) × ((q : List ℕ) → p (w ++ q) ≡ framed a q)
 
 -- ---- what was refused
 
@@ -82,7 +84,8 @@ module _ {A : Type 0} (p : List (List ℕ) → List ℕ → Frames (List ℕ × 
       onward x ys v w e z f g zero q l = absurd (omega arith)
       onward x ys v w e z f g (suc k) q l = rw (append-assoc (b ∷ v) w q, e, f (w ++ q), g k q (omega (arith, length-append v w)), z)
 
-      first : (x : List ℕ × A) (ys : List (List ℕ × A)) (v w q u : List ℕ) → eqb b 0 ≡ false → x ∷ ys ≡ xs → b ∷ s ≡ v ++ q → 1 ≤ length v → ((q : List ℕ) → p used (v ++ q) ≡ framed x q)
+      first : (x : List ℕ × A) (ys : List (List ℕ × A)) (v w q u : List ℕ) → eqb b 0 ≡ false → x ∷ ys ≡ xs → b ∷ s ≡ v ++ q → 1 ≤ length v
+          → ((q : List ℕ) → p used (v ++ q) ≡ framed x q)
           → q ≡ w ++ r → ((k : ℕ) (q : List ℕ) → length w ≤ k → untilClose p k (x .0 ∷ used) (w ++ q) ≡ framed ys q)
           → (w : List ℕ) × (b ∷ s ≡ w ++ r) × (1 ≤ length w) × ((k : ℕ) (q : List ℕ) → length w ≤ k → untilClose p k used (w ++ q) ≡ framed xs q)
       first x ys [] w q u e z i l f j g = absurd (omega arith)
@@ -107,12 +110,14 @@ module _ {A : Type 0} (p : List (List ℕ) → List ℕ → Frames (List ℕ × 
     abbrev CutAll : List (List ℕ) → List ℕ → Refusal → List ℕ → Type 0
     CutAll used s n r = OfFrame n × ((w : List ℕ) × (s ≡ w ++ r) × (1 ≤ length r) × ((k : ℕ) → untilClose p k used w ≡ refused ListEnds []))
 
-    pub until-refused : (m : ℕ) (used : List (List ℕ)) (s : List ℕ) (n : Refusal) (r : List ℕ) → untilClose p m used s ≡ refused n r → ((n ≡ ListEnds) × (r ≡ [])) ⊎ CutAll used s n r
+    pub until-refused : (m : ℕ) (used : List (List ℕ)) (s : List ℕ) (n : Refusal) (r : List ℕ) → untilClose p m used s ≡ refused n r
+        → ((n ≡ ListEnds) × (r ≡ [])) ⊎ CutAll used s n r
     until-refused zero used s n r h = inl (cc, cc)
     until-refused (suc m) used [] n r h = inl (cc, cc)
     until-refused (suc m) used (b ∷ s) n r h = go (eqb b 0) refl (until-refused m) h
       where
-        cut : (w : List ℕ) → b ∷ s ≡ w ++ r → eqb b 0 ≡ false → (1 ≤ length w → p used w ≡ refused ListEnds []) → (k : ℕ) → untilClose p k used w ≡ refused ListEnds []
+        cut : (w : List ℕ) → b ∷ s ≡ w ++ r → eqb b 0 ≡ false → (1 ≤ length w → p used w ≡ refused ListEnds []) → (k : ℕ)
+            → untilClose p k used w ≡ refused ListEnds []
         cut w e z f zero = refl
         cut [] e z f (suc k) = refl
         cut (a ∷ w) e z f (suc k) =
@@ -128,7 +133,8 @@ module _ {A : Type 0} (p : List (List ℕ) → List ℕ → Frames (List ℕ × 
             rw (y, f w, g k)
 
         go : (t : Bool) → eqb b 0 ≡ t
-            → ((used : List (List ℕ)) (s : List ℕ) (n : Refusal) (r : List ℕ) → untilClose p m used s ≡ refused n r → ((n ≡ ListEnds) × (r ≡ [])) ⊎ CutAll used s n r)
+            → ((used : List (List ℕ)) (s : List ℕ) (n : Refusal) (r : List ℕ) → untilClose p m used s ≡ refused n r
+            → ((n ≡ ListEnds) × (r ≡ [])) ⊎ CutAll used s n r)
             → cond t (framed [] s) (next (p used (b ∷ s)) λ x r. next (untilClose p m (x .0 ∷ used) r) λ xs q. framed (x ∷ xs) q) ≡ refused n r
             → ((n ≡ ListEnds) × (r ≡ [])) ⊎ CutAll used (b ∷ s) n r
         go true e ih h = never (sym h)
@@ -139,7 +145,8 @@ module _ {A : Type 0} (p : List (List ℕ) → List ℕ → Frames (List ℕ × 
             at (inl i) = inl i
             at (inr i) = inr (i .of-frame, (i .before, i .splits, i .some-left, cut (i .before) (i .splits) e (i .ends)))
 
-            behind : (x : List ℕ × A) (q : List ℕ) → p used (b ∷ s) ≡ framed x q → ((n ≡ ListEnds) × (r ≡ [])) ⊎ CutAll (x .0 ∷ used) q n r → ((n ≡ ListEnds) × (r ≡ [])) ⊎ CutAll used (b ∷ s) n r
+            behind : (x : List ℕ × A) (q : List ℕ) → p used (b ∷ s) ≡ framed x q → ((n ≡ ListEnds) × (r ≡ [])) ⊎ CutAll (x .0 ∷ used) q n r
+                → ((n ≡ ListEnds) × (r ≡ [])) ⊎ CutAll used (b ∷ s) n r
             behind x q i (inl j) = inl j
             behind x q i (inr j) =
                 let f = loc used (b ∷ s) x q i in

@@ -13,7 +13,9 @@ use Rattle.number.specs.BigEndian.{Bytes}
 use Rattle.number.proofs.VarUIntLaws.{encoded-length}
 use Rattle.text.specs.Equal.{equal}
 use Rattle.format.specs.declared.Kind.{Kind}
-use Rattle.format.specs.declared.Kind.the-variants.{Null, Object, UniformObject, Array, UniformArray, Binary, String, IntegerPositive, IntegerNegative, Float32, Float64, False, True, ObjectAttachment, BinaryAttachment, Hash, Uuid, DateTime, TimeSpan, ObjectId, CustomById, CustomByName}
+use Rattle.format.specs.declared.Kind.the-variants.{Null, Object, UniformObject, Array, UniformArray, Binary, String, IntegerPositive, IntegerNegative}
+use Rattle.format.specs.declared.Kind.the-variants.{Float32, Float64, False, True, ObjectAttachment, BinaryAttachment, Hash, Uuid, DateTime, TimeSpan}
+use Rattle.format.specs.declared.Kind.the-variants.{ObjectId, CustomById, CustomByName}
 use Rattle.format.specs.declared.Known.{Known}
 use Rattle.format.specs.declared.Known.the-variants.{Unknown, Is}
 use Rattle.frames.specs.declared.Refusal.{Refusal}
@@ -30,19 +32,14 @@ use Rattle.frames.specs.WriteList.{Frames, refused, framed, next, isWrit
 use Rattle.format.proofs.KindLaws.{known-inv}
 use Rattle.format.proofs.TextLaws.{name-case}
 use Rattle.frames.specs.Container.{namePart}
-use Rattle.frames.specs.FramePieces.{writable, modeOf, frameFront}
+use Rattle.frames.specs.FramePieces.{writable, modeOf, frameFront, IsLeaf, containerOf}
 use Rattle.frames.proofs.Flaws.{untrue, name-clean}
-use Rattle.frames.specs.declared.Refusal.{Refusal}
-use Rattle.frames.specs.declared.Refusal.the-variants.{BadFrame, NotText}
-use Rattle.frames.specs.WriteList.{Frames, refused, framed, next, isWritable, framePayload, FrameReader}
-use Rattle.frames.specs.Container.{namePart}
-use Rattle.frames.specs.FramePieces.{modeOf, frameFront, IsLeaf, containerOf}
-use Rattle.frames.proofs.Flaws.{untrue}
 
 pub never : {A X : Type 0} {n : Refusal} {r q : List ℕ} {a : A} → refused n r ≡ framed a q → X
 never h = clash cc
 
-pub next-got : {A B X : Type 0} (o : Frames A) (g : A → List ℕ → Frames B) {b : B} {r : List ℕ} → next o g ≡ framed b r → ((a : A) (q : List ℕ) → o ≡ framed a q → g a q ≡ framed b r → X) → X
+pub next-got : {A B X : Type 0} (o : Frames A) (g : A → List ℕ → Frames B) {b : B} {r : List ℕ} → next o g ≡ framed b r
+    → ((a : A) (q : List ℕ) → o ≡ framed a q → g a q ≡ framed b r → X) → X
 next-got (refused n r) g h c = never h
 next-got (framed a q) g h c = c a q refl h
 
@@ -104,7 +101,8 @@ name-found : (f : List ℕ) (used : List (List ℕ)) (s : List ℕ) → Bytes s 
     → (readName s ≡ got n [] q) × (any (equal n) used ≡ false) × (s ≡ withSize n ++ q) × (isEmpty n ≡ false)
 name-found f used s w {n} {q} h = go (readName s) refl h
   where
-    by : (m : List ℕ) (fs : List Flaw) (r : List ℕ) → readName s ≡ got m fs r → (a b c d : Bool) → has Long fs ≡ a → has Blank fs ≡ b → has NotUtf8 fs ≡ c → any (equal m) used ≡ d
+    by : (m : List ℕ) (fs : List Flaw) (r : List ℕ) → readName s ≡ got m fs r → (a b c d : Bool) → has Long fs ≡ a → has Blank fs ≡ b
+        → has NotUtf8 fs ≡ c → any (equal m) used ≡ d
         → cond a (refused BadFrame f) (cond b (refused EmptyName f) (cond c (refused NotText f) (cond d (refused NameUsed f) (framed m r)))) ≡ framed n q
         → (readName s ≡ got n [] q) × (any (equal n) used ≡ false) × (s ≡ withSize n ++ q) × (isEmpty n ≡ false)
     by m fs r e true b c d ea eb ec ed h = never h
@@ -117,7 +115,8 @@ name-found f used s w {n} {q} h = go (readName s) refl h
         let i : readName s ≡ got n [] q = cc (e, name-clean s e ea eb ec, z, y) in
         (i, rw z at ed, name-case s w i (λ es en wq. es), name-case s w i (λ es en wq. en .1))
 
-    go : (o : Out (List ℕ)) → readName s ≡ o → nameFound f used o ≡ framed n q → (readName s ≡ got n [] q) × (any (equal n) used ≡ false) × (s ≡ withSize n ++ q) × (isEmpty n ≡ false)
+    go : (o : Out (List ℕ)) → readName s ≡ o → nameFound f used o ≡ framed n q
+        → (readName s ≡ got n [] q) × (any (equal n) used ≡ false) × (s ≡ withSize n ++ q) × (isEmpty n ≡ false)
     go (fault k) e h = never h
     go (got m fs r) e h = by m fs r e (has Long fs) (has Blank fs) (has NotUtf8 fs) (any (equal m) used) refl refl refl refl h
 
@@ -126,10 +125,12 @@ unfolding isEmpty
 not-empty [] h = untrue (sym h)
 not-empty (b ∷ n) h = omega arith
 
-pub front-got : (named : Bool) (used : List (List ℕ)) (s : List ℕ) → Bytes s → {x : List ℕ × Kind} {q : List ℕ} → frameFront (modeOf named used) s ≡ framed x q → Fronted named s x q
+pub front-got : (named : Bool) (used : List (List ℕ)) (s : List ℕ) → Bytes s → {x : List ℕ × Kind} {q : List ℕ}
+    → frameFront (modeOf named used) s ≡ framed x q → Fronted named s x q
 unfolding namePart
 front-got named used [] w h = never h
-front-got named used (b ∷ s) w {x} {q} h = next-got (frameKind (b ∷ s) (known b) s) _ h λ k r e h₁. next-got (frameName (b ∷ s) (modeOf named used) r) _ h₁ λ n u e₁ h₂.
+front-got named used (b ∷ s) w {x} {q} h =
+    next-got (frameKind (b ∷ s) (known b) s) _ h λ k r e h₁. next-got (frameName (b ∷ s) (modeOf named used) r) _ h₁ λ n u e₁ h₂.
     let z : x ≡ (n, k) = cc in
     let y : u ≡ q = cc in
     rw (z, ← y) (at k r (kind-got k r (known b) refl e) named n u e₁)
@@ -138,15 +139,21 @@ front-got named used (b ∷ s) w {x} {q} h = next-got (frameKind (b ∷ s) (know
     kind-got k r Unknown e h = never h
     kind-got k r (Is l) e h = go (isWritable (payload l)) refl h
       where
-        go : (t : Bool) → isWritable (payload l) ≡ t → cond t (framed l s) (refused BadFrame (b ∷ s)) ≡ framed k r → (b ≡ id k) × (s ≡ r) × (isWritable (payload k) ≡ true)
+        go : (t : Bool) → isWritable (payload l) ≡ t → cond t (framed l s) (refused BadFrame (b ∷ s)) ≡ framed k r
+            → (b ≡ id k) × (s ≡ r) × (isWritable (payload k) ≡ true)
         go false i h = never h
         go true i h = let z : l ≡ k = cc in (rw z at (known-inv b l e), cc, rw z at i)
 
-    at : (k : Kind) (r : List ℕ) → (b ≡ id k) × (s ≡ r) × (isWritable (payload k) ≡ true) → (named : Bool) (n u : List ℕ) → frameName (b ∷ s) (modeOf named used) r ≡ framed n u → Fronted named (b ∷ s) (n, k) u
+    at : (k : Kind) (r : List ℕ) → (b ≡ id k) × (s ≡ r) × (isWritable (payload k) ≡ true) → (named : Bool) (n u : List ℕ)
+        → frameName (b ∷ s) (modeOf named used) r ≡ framed n u → Fronted named (b ∷ s) (n, k) u
     at k r (eb, es, ew) false n u h = let z : r ≡ u = cc in record { is = rw (eb, es, z); good = ew; some = λ t. untrue t; name = λ c t e z. untrue z }
-    at k r (eb, es, ew) true n u h =
-        let i = name-found (b ∷ s) used r (rw es at (w .1)) h in
-        record { is = rw (eb, es, i .2); good = ew; some = λ t. rw length-append (omega (arith, not-empty n (i .3), encoded-length (length n) .0)); name = λ c t e z. let y : r ≡ t = cc in rw y at (i .0) }
+    at k r (eb, es, ew) true n u h = let i = name-found (b ∷ s) used r (rw es at (w .1)) h in
+        record {
+          is = rw (eb, es, i .2);
+          good = ew;
+          some = λ t. rw length-append (omega (arith, not-empty n (i .3), encoded-length (length n) .0));
+          name = λ c t e z. let y : r ≡ t = cc in rw y at (i .0);
+        }
 
 -- a frame is what stands before its payload, and its payload
 abbrev pub withName : {A : Type 0} → List ℕ → Frames A → Frames (List ℕ × A)
@@ -163,7 +170,8 @@ frame-front p names (b ∷ s) h = go (frameKind (b ∷ s) (known b) s)
     by k (framed n r) = refl
 
     go : (o : Frames Kind) → (next o λ k r. next (frameName (b ∷ s) names r) λ n q. withName n (framePayload p (b ∷ s) (payload k) q))
-        ≡ (next (next o λ k r. next (frameName (b ∷ s) names r) λ n q. framed (n, k) q) λ (x : List ℕ × Kind) q. withName (x .0) (framePayload p (b ∷ s) (payload (x .1)) q))
+        ≡ (next (next o λ k r. next (frameName (b ∷ s) names r) λ n q. framed (n, k) q) λ (x : List ℕ × Kind) q.
+        withName (x .0) (framePayload p (b ∷ s) (payload (x .1)) q))
     go (refused n r) = refl
     go (framed k r) = by k (frameName (b ∷ s) names r)
 
@@ -178,7 +186,8 @@ rests-next f (framed a q) g h c = c a q
 
 pub front-rests : (u : Option (List (List ℕ))) (s : List ℕ) → 0 < length s → Rests s (frameFront u s)
 front-rests u [] h = absurd (omega arith)
-front-rests u (b ∷ s) h = rests-next (b ∷ s) (frameKind (b ∷ s) (known b) s) _ (kind-rests (known b)) λ k r. rests-next (b ∷ s) (frameName (b ∷ s) u r) _ (name-rests u r) λ n q. tt
+front-rests u (b ∷ s) h =
+    rests-next (b ∷ s) (frameKind (b ∷ s) (known b) s) _ (kind-rests (known b)) λ k r. rests-next (b ∷ s) (frameName (b ∷ s) u r) _ (name-rests u r) λ n q. tt
   where
     kind-rests : (o : Known) → Rests (b ∷ s) (frameKind (b ∷ s) o s)
     kind-rests Unknown = refl
@@ -192,7 +201,8 @@ front-rests u (b ∷ s) h = rests-next (b ∷ s) (frameKind (b ∷ s) (known b) 
     found-rests used (fault k) = refl
     found-rests used (got n fs r) = go (has Long fs) (has Blank fs) (has NotUtf8 fs) (any (equal n) used)
       where
-        go : (p q o t : Bool) → Rests (b ∷ s) (cond p (refused BadFrame (b ∷ s)) (cond q (refused EmptyName (b ∷ s)) (cond o (refused NotText (b ∷ s)) (cond t (refused NameUsed (b ∷ s)) (framed n r)))))
+        go : (p q o t : Bool) → Rests (b ∷ s) (cond p (refused BadFrame (b ∷ s))
+            (cond q (refused EmptyName (b ∷ s)) (cond o (refused NotText (b ∷ s)) (cond t (refused NameUsed (b ∷ s)) (framed n r)))))
         go true q o t = refl
         go false true o t = refl
         go false false true t = refl

@@ -69,13 +69,27 @@ double-got s w {v} {fs} {r} h = go (ltb (length s) 8) refl h
         let b : toBytes 8 (bitsOf s) ≡ take 8 s = rw c at (to-from (take 8 s) (bytes-take 8 s w)) in
         made x ex h b
       where
-        made : (x : Bool) → holds (bitsOf s) ≡ x → raise x Wide (got (float (float64 (bitsOf s))) [] (drop 8 s)) ≡ got v fs r → toBytes 8 (bitsOf s) ≡ take 8 s → Double s v fs r
+        made : (x : Bool) → holds (bitsOf s) ≡ x → raise x Wide (got (float (float64 (bitsOf s))) [] (drop 8 s)) ≡ got v fs r
+            → toBytes 8 (bitsOf s) ≡ take 8 s → Double s v fs r
         made true ex h b = let z : float (float64 (bitsOf s)) ≡ v = cc in
-            record { enough = l; flaws = rw ex (cc); left = cc; kind = rw (← z) (double-kind (bitsOf s)); bytes = ap leafPayload (sym z) ∙ double-payload (bitsOf s) ∙ ap (λ t. cond (holds (bitsOf s)) (toBytes 4 (narrow (bitsOf s))) t) b }
+            record {
+              enough = l;
+              flaws = rw ex (cc);
+              left = cc;
+              kind = rw (← z) (double-kind (bitsOf s));
+              bytes = ap leafPayload (sym z) ∙ double-payload (bitsOf s) ∙ ap (λ t. cond (holds (bitsOf s)) (toBytes 4 (narrow (bitsOf s))) t) b;
+            }
         made false ex h b = let z : float (float64 (bitsOf s)) ≡ v = cc in
-            record { enough = l; flaws = rw ex (cc); left = cc; kind = rw (← z) (double-kind (bitsOf s)); bytes = ap leafPayload (sym z) ∙ double-payload (bitsOf s) ∙ ap (λ t. cond (holds (bitsOf s)) (toBytes 4 (narrow (bitsOf s))) t) b }
+            record {
+              enough = l;
+              flaws = rw ex (cc);
+              left = cc;
+              kind = rw (← z) (double-kind (bitsOf s));
+              bytes = ap leafPayload (sym z) ∙ double-payload (bitsOf s) ∙ ap (λ t. cond (holds (bitsOf s)) (toBytes 4 (narrow (bitsOf s))) t) b;
+            }
 
-    go : (x : Bool) → ltb (length s) 8 ≡ x → (bind (cond x (fault Early) (got (take 8 s) [] (drop 8 s))) λ b r. raise (holds (fromBytes b)) Wide (got (float (float64 (fromBytes b))) [] r)) ≡ got v fs r → Double s v fs r
+    go : (x : Bool) → ltb (length s) 8 ≡ x → (bind (cond x (fault Early) (got (take 8 s) [] (drop 8 s))) λ b r.
+        raise (holds (fromBytes b)) Wide (got (float (float64 (fromBytes b))) [] r)) ≡ got v fs r → Double s v fs r
     go true e h = clash cc
     go false e h = by (ltb-false (length s) 8 e) (holds (bitsOf s)) refl h
 
@@ -85,7 +99,8 @@ pub kind-double : (k : Kind) → id k ≡ 11 → k ≡ Float64
 unfolding known
 kind-double k e = let z : known 11 ≡ Is k = rw e at (known-rt k) in cc
 
-module _ (k : Kind) (p : List ℕ → Out Leaf) (e : payload k ≡ leaf p) (s : List ℕ) (w : Bytes s) {v : Leaf} {fs : List Flaw} {r : List ℕ} (h : p s ≡ got v fs r) where
+module _ (k : Kind) (p : List ℕ → Out Leaf) (e : payload k ≡ leaf p) (s : List ℕ) (w : Bytes s) {v : Leaf} {fs : List Flaw} {r : List ℕ}
+    (h : p s ≡ got v fs r) where
   pub leaf-got : {X : Type 0} → has Long fs ≡ false → has Low fs ≡ false → has NotUtf8 fs ≡ false
       → ((id k ≡ 11 → ⊥) → fs ≡ [] → s ≡ leafPayload v ++ r → leafKind v ≡ k → X) → (k ≡ Float64 → Double s v fs r → X) → X
   unfolding payload
@@ -102,7 +117,10 @@ module _ (k : Kind) (p : List ℕ → Out Leaf) (e : payload k ≡ leaf p) (s : 
       double z y = g z (double-got s w y)
 
       go : (x : Bool) → eqb (id k) 11 ≡ x → X
-      go true z = let y = kind-double k (eqb-true (id k) 11 z) in double y (let t : payload Float64 ≡ leaf p = rw y at e in let u : readFloat64 ≡ p = cc in ap (λ (q : List ℕ → Out Leaf). q s) u ∙ h)
+      go true z =
+          let y = kind-double k (eqb-true (id k) 11 z) in
+          double y (let t : payload Float64 ≡ leaf p = rw y at e in
+          let u : readFloat64 ≡ p = cc in ap (λ (q : List ℕ → Out Leaf). q s) u ∙ h)
       go false z = let ne = eqb-false (id k) 11 z in plain ne (leaf-clean k p ne e s h a b c) (payload k) e (leaf-only k)
 
 pub leaf-of : {X : Type 0} (k : Kind) → IsLeaf (payload k) → ((p : List ℕ → Out Leaf) → payload k ≡ leaf p → X) → X
@@ -116,7 +134,8 @@ leaf-of {X} k i c = go (payload k) refl i
     go sharedItems e i = absurd i
 
 -- what a leaf reader leaves is an end
-pub leaf-left : (k : Kind) (p : List ℕ → Out Leaf) → payload k ≡ leaf p → (s : List ℕ) {v : Leaf} {fs : List Flaw} {r : List ℕ} → p s ≡ got v fs r → (w : List ℕ) × (s ≡ w ++ r)
+pub leaf-left : (k : Kind) (p : List ℕ → Out Leaf) → payload k ≡ leaf p → (s : List ℕ) {v : Leaf} {fs : List Flaw} {r : List ℕ} → p s ≡ got v fs r
+    → (w : List ℕ) × (s ≡ w ++ r)
 unfolding head
 leaf-left k p e s {v} {fs} {r} h =
     let z : head k s ≡ got (value v) (fs ++ []) r = rw (e, h) (with-put fs [] (value v) r) in

@@ -13,13 +13,15 @@ use Rattle.format.specs.declared.Kind.{Kind}
 use Rattle.format.specs.declared.Mark.the-variants.{OfField, OfItem, SharedByFields}
 use Rattle.format.specs.Kinds.{typeByte, same, all, isBare, isUniform, isUniformArray}
 use Rattle.format.specs.Tree.{Node, atom, array, object, Tree, NameWithin, NodeWithin, Within}
-use Rattle.format.specs.Encoding.{withSize, concat, leafPayload, sharedByte, itemKinds, fieldKinds, items, fields, arrayBody, objectBody, nodeKind, nodePayload, kindOf, payloadOf, encoding}
+use Rattle.format.specs.Encoding.{withSize, concat, leafPayload, sharedByte, itemKinds, fieldKinds, items, fields, arrayBody, objectBody, nodeKind}
+use Rattle.format.specs.Encoding.{nodePayload, kindOf, payloadOf, encoding}
 use Rattle.format.proofs.Lists.{all-both, and-true}
 use Rattle.format.proofs.KindLaws.{all-same}
 use Rattle.format.proofs.Leaves.{leaf-some}
 use Rattle.frames.specs.Describe.{close, nodeFrames, framesOf, listOf}
 
-concat-twice : {A : Type 0} (P : A → Type 0) (f g : A → List ℕ) → ((x : A) → P x → length (f x) ≤ 2 * length (g x)) → (xs : List A) → All P xs → length (concat f xs) ≤ 2 * length (concat g xs)
+concat-twice : {A : Type 0} (P : A → Type 0) (f g : A → List ℕ) → ((x : A) → P x → length (f x) ≤ 2 * length (g x)) → (xs : List A) → All P xs
+    → length (concat f xs) ≤ 2 * length (concat g xs)
 concat-twice P f g h [] w = omega arith
 concat-twice P f g h (x ∷ xs) w =
     let a = length-append (f x) (concat f xs) in
@@ -42,10 +44,15 @@ module _ {A : Type 0} (W : A → Type 0) (kind : A → Kind) (pay : A → List �
       let i = and-true (not (isBare k)) (all (same k) (map kind xs)) e in
       let b : isBare k ≡ false = not-true (isBare k) (i .0) in
       let q : All (λ y. kind y ≡ k) (x ∷ xs) = (refl, all-same kind k xs (i .1)) in
-      omega (arith, concat-twice (λ y. (kind y ≡ k) × W y) (f []) pay (λ y v. g .full y (v .1) (rw (v .0) b)) (x ∷ xs) (all-both (λ y. kind y ≡ k) W (x ∷ xs) q w))
+      omega (
+        arith,
+        concat-twice (λ y. (kind y ≡ k) × W y) (f []) pay (λ y v. g .full y (v .1) (rw (v .0) b)) (x ∷ xs) (all-both (λ y. kind y ≡ k) W (x ∷ xs) q w),
+      )
 
-  fields-twice : (u : Bool) (xs : List (List ℕ × A)) → All (λ x. NameWithin (x .0) × W (x .1)) xs → length (concat (λ x. f (withSize (x .0)) (x .1)) xs) ≤ 2 * length (fields u kind pay xs)
-  fields-twice false xs w = concat-twice (λ x. NameWithin (x .0) × W (x .1)) (λ x. f (withSize (x .0)) (x .1)) (λ x. typeByte OfField (kind (x .1)) ∷ (withSize (x .0) ++ pay (x .1)))
+  fields-twice : (u : Bool) (xs : List (List ℕ × A)) → All (λ x. NameWithin (x .0) × W (x .1)) xs
+      → length (concat (λ x. f (withSize (x .0)) (x .1)) xs) ≤ 2 * length (fields u kind pay xs)
+  fields-twice false xs w = concat-twice (λ x. NameWithin (x .0) × W (x .1)) (λ x. f (withSize (x .0)) (x .1))
+      (λ x. typeByte OfField (kind (x .1)) ∷ (withSize (x .0) ++ pay (x .1)))
       (λ x v. omega (arith, g .named (withSize (x .0)) (x .1), g .any (x .1) (v .1), length-append (withSize (x .0)) (pay (x .1)))) xs w
   fields-twice true xs w =
       let c = concat (λ x. withSize (x .0) ++ pay (x .1)) xs in
@@ -53,7 +60,14 @@ module _ {A : Type 0} (W : A → Type 0) (kind : A → Kind) (pay : A → List �
         arith,
         length-append (sharedByte SharedByFields (fieldKinds kind xs)) c,
         concat-twice (λ x. NameWithin (x .0) × W (x .1)) (λ x. f (withSize (x .0)) (x .1)) (λ x. withSize (x .0) ++ pay (x .1))
-            (λ x v. omega (arith, g .named (withSize (x .0)) (x .1), g .any (x .1) (v .1), length-append (withSize (x .0)) (pay (x .1)), length-append (encoded (length (x .0))) (x .0), encoded-length (length (x .0)) .0)) xs w,
+            (λ x v. omega (
+              arith,
+              g .named (withSize (x .0)) (x .1),
+              g .any (x .1) (v .1),
+              length-append (withSize (x .0)) (pay (x .1)),
+              length-append (encoded (length (x .0))) (x .0),
+              encoded-length (length (x .0)) .0,
+            )) xs w,
       )
 
   node-named : (name : List ℕ) (t : Node A) → length (nodeFrames f name t) ≡ length name + length (nodeFrames f [] t)
@@ -65,12 +79,27 @@ module _ {A : Type 0} (W : A → Type 0) (kind : A → Kind) (pay : A → List �
   array-twice xs w =
       let u = isUniformArray (itemKinds kind xs) in
       let b = arrayBody kind pay xs in
-      omega (arith, length-append (concat (f []) xs) close, items-twice u xs refl w, length-append (encoded (length xs)) (items u kind pay xs), encoded-length (length xs) .0, length-append (encoded (length b)) b, encoded-length (length b) .0)
+      omega (
+        arith,
+        length-append (concat (f []) xs) close,
+        items-twice u xs refl w,
+        length-append (encoded (length xs)) (items u kind pay xs),
+        encoded-length (length xs) .0,
+        length-append (encoded (length b)) b,
+        encoded-length (length b) .0,
+      )
 
-  object-twice : (xs : List (List ℕ × A)) → All (λ x. NameWithin (x .0) × W (x .1)) xs → length (nodeFrames f [] (object xs)) ≤ 2 * length (nodePayload kind pay (object xs))
+  object-twice : (xs : List (List ℕ × A)) → All (λ x. NameWithin (x .0) × W (x .1)) xs
+      → length (nodeFrames f [] (object xs)) ≤ 2 * length (nodePayload kind pay (object xs))
   object-twice xs w =
       let b = objectBody kind pay xs in
-      omega (arith, length-append (concat (λ x. f (withSize (x .0)) (x .1)) xs) close, fields-twice (isUniform (fieldKinds kind xs)) xs w, length-append (encoded (length b)) b, encoded-length (length b) .0)
+      omega (
+        arith,
+        length-append (concat (λ x. f (withSize (x .0)) (x .1)) xs) close,
+        fields-twice (isUniform (fieldKinds kind xs)) xs w,
+        length-append (encoded (length b)) b,
+        encoded-length (length b) .0,
+      )
 
   node-full : (t : Node A) → NodeWithin W t → isBare (nodeKind kind t) ≡ false → length (nodeFrames f [] t) ≤ 2 * length (nodePayload kind pay t)
   node-full (atom v) w h = omega (arith, leaf-some v w h)

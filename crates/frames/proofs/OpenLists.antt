@@ -15,7 +15,8 @@ use Rattle.frames.specs.declared.Refusal.the-variants.{ListEnds, NoneOpe
 use Rattle.format.specs.Kinds.{known}
 use Rattle.format.specs.Tree.{array, object, Tree}
 use Rattle.format.specs.Payload.{Payload, leaf, fields, sharedFields, items, sharedItems, payload}
-use Rattle.frames.specs.WriteList.{Frames, refused, framed, next, frameKind, frameName, leafFound, untilClose, FrameReader, framePayload, frame, readFrames, only, readList}
+use Rattle.frames.specs.WriteList.{Frames, refused, framed, next, frameKind, frameName, leafFound, untilClose, FrameReader, framePayload, frame}
+use Rattle.frames.specs.WriteList.{readFrames, only, readList}
 use Rattle.format.proofs.Lists.{append-nil}
 use Rattle.frames.proofs.FrontLaws.{never, next-got}
 use Rattle.frames.proofs.FramesLocal.{next-refused, LocalFrames, Judges, until-got, until-refused}
@@ -28,7 +29,8 @@ abbrev pub leftOf : {A : Type 0} → Frames A → ℕ
 leftOf (refused n r) = length r
 leftOf (framed a r) = length r
 
-next-left : {A B : Type 0} (o : Frames A) (g : A → List ℕ → Frames B) (n : ℕ) → leftOf o ≤ n → ((a : A) (q : List ℕ) → leftOf (g a q) ≤ length q) → leftOf (next o g) ≤ n
+next-left : {A B : Type 0} (o : Frames A) (g : A → List ℕ → Frames B) (n : ℕ) → leftOf o ≤ n
+    → ((a : A) (q : List ℕ) → leftOf (g a q) ≤ length q) → leftOf (next o g) ≤ n
 next-left (refused k r) g n h f = h
 next-left (framed a q) g n h f = omega (arith, f a q)
 
@@ -51,7 +53,8 @@ frames-left d names b s = go (readFrames d names (b ∷ s)) refl
 abbrev Open : {A : Type 0} → (List ℕ → Frames A) → Type 0
 Open p = (s r : List ℕ) → 1 ≤ length s → p s ≡ refused ListEnds r → (m : List ℕ) → leftOf (p (s ++ m)) ≤ length m
 
-module _ {A : Type 0} (p : List (List ℕ) → List ℕ → Frames (List ℕ × A)) (loc : (used : List (List ℕ)) → LocalFrames (p used)) (ref : (used : List (List ℕ)) → Judges (p used))
+module _ {A : Type 0} (p : List (List ℕ) → List ℕ → Frames (List ℕ × A)) (loc : (used : List (List ℕ)) → LocalFrames (p used))
+    (ref : (used : List (List ℕ)) → Judges (p used))
     (opn : (used : List (List ℕ)) → Open (p used)) where
   until-left : (k : ℕ) (used : List (List ℕ)) (s : List ℕ) → leftOf (untilClose p k used s) ≤ length s
   until-left k used s = go (untilClose p k used s) refl
@@ -63,10 +66,12 @@ module _ {A : Type 0} (p : List (List ℕ) → List ℕ → Frames (List ℕ × 
         | inr i ↦ end-left s (i .1 .0) r (i .1 .1)
       ]
 
-  more-left : (j : ℕ) (used : List (List ℕ)) (x : List ℕ × A) (q : List ℕ) → leftOf (next (untilClose p j (x .0 ∷ used) q) λ xs u. framed (x ∷ xs) u) ≤ length q
+  more-left : (j : ℕ) (used : List (List ℕ)) (x : List ℕ × A) (q : List ℕ)
+      → leftOf (next (untilClose p j (x .0 ∷ used) q) λ xs u. framed (x ∷ xs) u) ≤ length q
   more-left j used x q = next-left (untilClose p j (x .0 ∷ used) q) (λ xs u. framed (x ∷ xs) u) (length q) (until-left j (x .0 ∷ used) q) (λ xs u. omega arith)
 
-  until-open : (k j : ℕ) (used : List (List ℕ)) (s r : List ℕ) → length s ≤ k → untilClose p k used s ≡ refused ListEnds r → (m : List ℕ) → leftOf (untilClose p j used (s ++ m)) ≤ length m
+  until-open : (k j : ℕ) (used : List (List ℕ)) (s r : List ℕ) → length s ≤ k → untilClose p k used s ≡ refused ListEnds r → (m : List ℕ)
+      → leftOf (untilClose p j used (s ++ m)) ≤ length m
   until-open zero j used [] r l h m = until-left j used m
   until-open zero j used (b ∷ s) r l h m = absurd (omega arith)
   until-open (suc k) zero used [] r l h m = until-left zero used m
@@ -74,34 +79,42 @@ module _ {A : Type 0} (p : List (List ℕ) → List ℕ → Frames (List ℕ × 
   until-open (suc k) zero used (b ∷ s) r l h m = omega arith
   until-open (suc k) (suc j) used (b ∷ s) r l h m = go (eqb b 0) (until-open k j) h
     where
-      go : (t : Bool) → ((used : List (List ℕ)) (s r : List ℕ) → length s ≤ k → untilClose p k used s ≡ refused ListEnds r → (m : List ℕ) → leftOf (untilClose p j used (s ++ m)) ≤ length m)
+      go : (t : Bool) → ((used : List (List ℕ)) (s r : List ℕ) → length s ≤ k → untilClose p k used s ≡ refused ListEnds r → (m : List ℕ)
+          → leftOf (untilClose p j used (s ++ m)) ≤ length m)
           → cond t (framed [] s) (next (p used (b ∷ s)) λ x q. next (untilClose p k (x .0 ∷ used) q) λ xs u. framed (x ∷ xs) u) ≡ refused ListEnds r
-          → leftOf (cond t (framed [] (s ++ m)) (next (p used (b ∷ (s ++ m))) λ x q. next (untilClose p j (x .0 ∷ used) q) λ xs u. framed (x ∷ xs) u)) ≤ length m
+          → leftOf
+          (cond t (framed [] (s ++ m)) (next (p used (b ∷ (s ++ m))) λ x q. next (untilClose p j (x .0 ∷ used) q) λ xs u. framed (x ∷ xs) u)) ≤ length m
       go true ih h = never (sym h)
       go false ih h = next-refused (p used (b ∷ s)) _ h
           (λ e. next-left (p used (b ∷ (s ++ m))) _ (length m) (opn used (b ∷ s) r (omega arith) e m) (more-left j used))
           (λ x q e i. next-refused (untilClose p k (x .0 ∷ used) q) _ i (λ f. on x q (loc used (b ∷ s) x q e) f) (λ xs u f g. never (sym g)))
         where
-          on : (x : List ℕ × A) (q : List ℕ) → (w : List ℕ) × (b ∷ s ≡ w ++ q) × (1 ≤ length w) × ((u : List ℕ) → p used (w ++ u) ≡ framed x u) → untilClose p k (x .0 ∷ used) q ≡ refused ListEnds r
+          on : (x : List ℕ × A) (q : List ℕ) → (w : List ℕ) × (b ∷ s ≡ w ++ q) × (1 ≤ length w) × ((u : List ℕ) → p used (w ++ u) ≡ framed x u)
+              → untilClose p k (x .0 ∷ used) q ≡ refused ListEnds r
               → leftOf (next (p used (b ∷ (s ++ m))) λ x q. next (untilClose p j (x .0 ∷ used) q) λ xs u. framed (x ∷ xs) u) ≤ length m
           on x q w f =
               let e : b ∷ (s ++ m) ≡ w .0 ++ (q ++ m) = ap (λ t. t ++ m) (w .1) ∙ append-assoc (w .0) q m in
               let n : suc (length s) ≡ length (w .0) + length q = ap length (w .1) ∙ length-append (w .0) q in
               rw (e, w .3 (q ++ m))
-              (next-left (untilClose p j (x .0 ∷ used) (q ++ m)) (λ xs u. framed (x ∷ xs) u) (length m) (ih (x .0 ∷ used) q r (omega (arith, w .2)) f m) (λ xs u. omega arith))
+              (next-left (untilClose p j (x .0 ∷ used) (q ++ m)) (λ xs u. framed (x ∷ xs) u) (length m)
+              (ih (x .0 ∷ used) q r (omega (arith, w .2)) f m) (λ xs u. omega arith))
 
-module _ {A : Type 0} (p : FrameReader A) (loc : (names : Option (List (List ℕ))) → LocalFrames (p names)) (ref : (names : Option (List (List ℕ))) → Judges (p names))
+module _ {A : Type 0} (p : FrameReader A) (loc : (names : Option (List (List ℕ))) → LocalFrames (p names))
+    (ref : (names : Option (List (List ℕ))) → Judges (p names))
     (opn : (names : Option (List (List ℕ))) → Open (p names)) where
-  payload-open : (f : List ℕ) (how : Payload) (s r : List ℕ) → framePayload p f how s ≡ refused ListEnds r → (g m : List ℕ) → leftOf (framePayload p g how (s ++ m)) ≤ length m
+  payload-open : (f : List ℕ) (how : Payload) (s r : List ℕ) → framePayload p f how s ≡ refused ListEnds r → (g m : List ℕ)
+      → leftOf (framePayload p g how (s ++ m)) ≤ length m
   payload-open f (leaf q) s r h g m = next-refused (leafFound f (q s)) _ h (λ e. absurd (leaf-refused f (q s) ListEnds r e .0)) (λ v u e i. never (sym i))
   payload-open f fields s r h g m = next-refused (untilClose (λ used. p (some used)) (length s) [] s) _ h
       (λ e. next-left (untilClose (λ used. p (some used)) (length (s ++ m)) [] (s ++ m)) (λ xs u. framed (object xs) u) (length m)
-      (until-open (λ used. p (some used)) (λ used. loc (some used)) (λ used. ref (some used)) (λ used. opn (some used)) (length s) (length (s ++ m)) [] s r (omega arith) e m) (λ xs u. omega arith))
+      (until-open (λ used. p (some used)) (λ used. loc (some used)) (λ used. ref (some used)) (λ used. opn (some used)) (length s) (length (s ++ m)) [] s r
+      (omega arith) e m) (λ xs u. omega arith))
       (λ xs u e i. never (sym i))
   payload-open f sharedFields s r h g m = clash cc
   payload-open f items s r h g m = next-refused (untilClose (λ used. p none) (length s) [] s) _ h
       (λ e. next-left (untilClose (λ used. p none) (length (s ++ m)) [] (s ++ m)) (λ xs u. framed (array (map (λ x. x .1) xs)) u) (length m)
-      (until-open (λ used. p none) (λ used. loc none) (λ used. ref none) (λ used. opn none) (length s) (length (s ++ m)) [] s r (omega arith) e m) (λ xs u. omega arith))
+      (until-open (λ used. p none) (λ used. loc none) (λ used. ref none) (λ used. opn none) (length s) (length (s ++ m)) [] s r (omega arith) e m)
+      (λ xs u. omega arith))
       (λ xs u e i. never (sym i))
   payload-open f sharedItems s r h g m = clash cc
 
@@ -112,15 +125,16 @@ module _ {A : Type 0} (p : FrameReader A) (loc : (names : Option (List (List ℕ
       λ k u i h₁. next-refused (frameName (b ∷ s) names u) _ h₁ (λ e. absurd (name-refused (b ∷ s) names u ListEnds r e .0))
       λ n q j h₂. next-refused (framePayload p (b ∷ s) (payload k) q) _ h₂ (λ e. on k u i n q j e) (λ t v e h₃. never (sym h₃))
     where
-      on : (k : Kind) (u : List ℕ) → frameKind (b ∷ s) (known b) s ≡ framed k u → (n q : List ℕ) → frameName (b ∷ s) names u ≡ framed n q → framePayload p (b ∷ s) (payload k) q ≡ refused ListEnds r
-          → leftOf (frame p names (b ∷ (s ++ m))) ≤ length m
+      on : (k : Kind) (u : List ℕ) → frameKind (b ∷ s) (known b) s ≡ framed k u → (n q : List ℕ) → frameName (b ∷ s) names u ≡ framed n q
+          → framePayload p (b ∷ s) (payload k) q ≡ refused ListEnds r → leftOf (frame p names (b ∷ (s ++ m))) ≤ length m
       on k u i n q j e =
           let f = b ∷ (s ++ m) in
           let a = kind-got (b ∷ s) (known b) s i in
           let c = name-got (b ∷ s) names u j in
           let y : s ++ m ≡ c .0 ++ (q ++ m) = ap (λ t. t ++ m) (a .0 ∙ c .1) ∙ append-assoc (c .0) q m in
           let z : frameName f names (s ++ m) ≡ framed n (q ++ m) = ap (frameName f names) y ∙ c .2 f (q ++ m) in
-          rw (a .1 f (s ++ m), z) (next-left (framePayload p f (payload k) (q ++ m)) (λ t v. framed (n, t) v) (length m) (payload-open (b ∷ s) (payload k) q r e f m) (λ t v. omega arith))
+          rw (a .1 f (s ++ m), z) (next-left (framePayload p f (payload k) (q ++ m)) (λ t v. framed (n, t) v) (length m)
+          (payload-open (b ∷ s) (payload k) q r e f m) (λ t v. omega arith))
 
 frames-open : (d : ℕ) (names : Option (List (List ℕ))) → Open (readFrames d names)
 unfolding readFrames

@@ -48,7 +48,8 @@ module _ {A : Type 0} (kind : A → Kind) where
         three : (n : ℕ) → n ≤ 65536 → suc (length (toBytes (reached bounds n) n)) < 4
         three n h = rw (to-length (reached bounds n) n) (by (ltb n (2 ^ 7)) (ltb n (2 ^ 14)) (ltb n (2 ^ 21)) (lt-ltb n (2 ^ 21) (omega arith)))
           where
-            by : (a b c : Bool) → c ≡ true → suc (cond a 0 (suc (cond b 0 (suc (cond c 0 (suc (reached (2 ^ 28 ∷ 2 ^ 35 ∷ 2 ^ 42 ∷ 2 ^ 49 ∷ 2 ^ 56 ∷ []) n))))))) < 4
+            by : (a b c : Bool) → c ≡ true
+                → suc (cond a 0 (suc (cond b 0 (suc (cond c 0 (suc (reached (2 ^ 28 ∷ 2 ^ 35 ∷ 2 ^ 42 ∷ 2 ^ 49 ∷ 2 ^ 56 ∷ []) n))))))) < 4
             by true b c e = omega arith
             by false true c e = omega arith
             by false false true e = omega arith
@@ -104,4 +105,5 @@ pub numbers-long : (d : ℕ) (t : Tree d) → length (packsOf d t) ≡ length (s
 numbers-long zero t = absurd t
 numbers-long (suc d) (atom v) = refl
 numbers-long (suc d) (array xs) = ap suc (concat-long (packsOf d) (sizesOf d) (numbers-long d) xs)
-numbers-long (suc d) (object xs) = ap suc (concat-long (λ (x : List ℕ × Tree d). packsOf d (x .1)) (λ (x : List ℕ × Tree d). sizesOf d (x .1)) (λ x. numbers-long d (x .1)) xs)
+numbers-long (suc d) (object xs) =
+    ap suc (concat-long (λ (x : List ℕ × Tree d). packsOf d (x .1)) (λ (x : List ℕ × Tree d). sizesOf d (x .1)) (λ x. numbers-long d (x .1)) xs)

@@ -1,5 +1,6 @@
 -- Every refusal's number and place, and each order of two, by write lists whose outcomes are computed; what a refusal and a success leave; and runs of the
--- program, of which the longest lists are in crates/demands/proofs/Lent.antt (document 01, "The write list"). The answers are 01's: exchanging two numbers or two orders in the definitions is refused here.
+-- program, of which the longest lists are in crates/demands/proofs/Lent.antt (document 01, "The write list"). The answers are 01's: exchanging two numbers or
+-- two orders in the definitions is refused here.
 use Prim.Native.Nat.{ℕ, _+_}
 use mathlib.Core.Path.{_≡_, refl}
 use mathlib.Core.List.{List, [], _∷_, _++_, map}
@@ -61,7 +62,8 @@ each =
     -- 3: an empty name
     ∷ refused 3 1 (of 4 0x02010000)
     -- 4: a name that the object has; an outer object's, or another's, is none
-    ∷ refused 4 4 (of 8 0x0201016101016100) ∷ lent 100 40 (of 9 0x020201610101610000) (0 ∷ 9 ∷ 7 ∷ 3 ∷ []) ∷ lent 100 40 (of 12 0x040201016100020101610000) (0 ∷ 12 ∷ 10 ∷ 3 ∷ 3 ∷ [])
+    ∷ refused 4 4 (of 8 0x0201016101016100) ∷ lent 100 40 (of 9 0x020201610101610000) (0 ∷ 9 ∷ 7 ∷ 3 ∷ [])
+    ∷ lent 100 40 (of 12 0x040201016100020101610000) (0 ∷ 12 ∷ 10 ∷ 3 ∷ 3 ∷ [])
     -- 5: a name, a string, a custom's name that is not UTF-8
     ∷ refused 5 1 (of 5 0x020101c300) ∷ refused 5 0 (of 3 0x0701c3) ∷ refused 5 0 (of 4 0x1f0201c3)
     -- 6: a field at depth 33, in an array or in an object; a close is none
@@ -71,7 +73,8 @@ each =
     -- 9: a list of 65,537 bytes; one of 65,536 is read
     ∷ refused 9 0 (times 65537 0x00) ∷ refused 7 0 (times 65536 0x00)
     -- 10 and 11 (an encoding of more than 65,536 bytes: crates/demands/proofs/Lent.antt, with what the program lends)
-    ∷ lent 100 0 (of 2 0x0400) (10 ∷ 0 ∷ []) ∷ lent 100 1 (of 4 0x04040000) (10 ∷ 0 ∷ []) ∷ lent 1 0 (of 2 0x0805) (11 ∷ 0 ∷ []) ∷ lent 2 0 (of 2 0x0805) (0 ∷ 2 ∷ [])
+    ∷ lent 100 0 (of 2 0x0400) (10 ∷ 0 ∷ []) ∷ lent 100 1 (of 4 0x04040000) (10 ∷ 0 ∷ []) ∷ lent 1 0 (of 2 0x0805) (11 ∷ 0 ∷ [])
+    ∷ lent 2 0 (of 2 0x0805) (0 ∷ 2 ∷ [])
     ∷ []
 
 -- ---- each order of two
@@ -127,15 +130,31 @@ abbrev pub writes : List Write
 writes =
     -- the bytes behind the encoding stay; work numbers are the sizes, and zero behind them
     record { list = of 2 0x0805; output = of 3 0x090909; work = 7 ∷ []; result = record { answer = Done 2; output = of 3 0x080509; work = 0 ∷ [] } }
-    ∷ record { list = of 4 0x04040000; output = times 7 0x09; work = 7 ∷ 7 ∷ 7 ∷ []; result = record { answer = Done 6; output = of 7 0x05040104010009; work = 4 ∷ 1 ∷ 0 ∷ [] } }
+    ∷ record {
+      list = of 4 0x04040000;
+      output = times 7 0x09;
+      work = 7 ∷ 7 ∷ 7 ∷ [];
+      result = record { answer = Done 6; output = of 7 0x05040104010009; work = 4 ∷ 1 ∷ 0 ∷ [] };
+    }
     -- a refusal leaves the output, and zeroes all work numbers
-    ∷ record { list = of 2 0x0415; output = of 3 0x090909; work = 7 ∷ 7 ∷ []; result = record { answer = Refused BadFrame 1; output = of 3 0x090909; work = 0 ∷ 0 ∷ [] } }
+    ∷ record {
+      list = of 2 0x0415;
+      output = of 3 0x090909;
+      work = 7 ∷ 7 ∷ [];
+      result = record { answer = Refused BadFrame 1; output = of 3 0x090909; work = 0 ∷ 0 ∷ [] };
+    }
     -- IDs are settled first: 1.0 as a Float64 and as a Float32 make a uniform array
-    ∷ record { list = 0x04 ∷ (of 9 0x0b3ff0000000000000 ++ of 6 0x0a3f80000000); output = times 12 0x09; work = 7 ∷ []; result = record { answer = Done 12; output = of 12 0x050a020a3f8000003f800000; work = 10 ∷ [] } }
+    ∷ record {
+      list = 0x04 ∷ (of 9 0x0b3ff0000000000000 ++ of 6 0x0a3f80000000);
+      output = times 12 0x09;
+      work = 7 ∷ [];
+      result = record { answer = Done 12; output = of 12 0x050a020a3f8000003f800000; work = 10 ∷ [] };
+    }
     ∷ []
 
 pub writes-pinned : map written-of writes ≡ writes
-unfolding varUInt encoded isText due equal holds widen narrow ofBits toBits nanBits known isBare isUniform isUniformArray readVarUInt fixed isEmpty twins payload readFrames readList encoding outcome written
+unfolding varUInt encoded isText due equal holds widen narrow ofBits toBits nanBits known isBare isUniform isUniformArray readVarUInt fixed isEmpty twins
+    payload readFrames readList encoding outcome written
 writes-pinned = refl
 
 -- ---- the program
@@ -154,7 +173,8 @@ ran x = run (x .input) (program (x .input))
 abbrev pub runs : List Run
 runs =
     -- 01's example: the lines 02, 07046e616d6505416c696365, 08036167651e and 00
-    run (of 44 0x30320a3037303436653631366436353035343136633639363336350a3038303336313637363531650a30300a) (of 41 0x303231326337303436653631366436353035343136633639363336356338303336313637363531650a)
+    run (of 44 0x30320a3037303436653631366436353035343136633639363336350a3038303336313637363531650a30300a)
+    (of 41 0x303231326337303436653631366436353035343136633639363336356338303336313637363531650a)
     -- `refused 1 at 0`: no input; and line feeds alone, which mean nothing
     ∷ run [] (of 15 0x72656675736564203120617420300a)
     ∷ run (of 2 0x0a0a) (of 15 0x72656675736564203120617420300a)
@@ -179,5 +199,6 @@ runs =
     ∷ []
 
 pub program-pinned : map ran runs ≡ runs
-unfolding varUInt encoded isText due equal known isBare isUniform isUniformArray readVarUInt fixed isEmpty twins payload readFrames readList encoding outcome bytesTyped program
+unfolding varUInt encoded isText due equal known isBare isUniform isUniformArray readVarUInt fixed isEmpty twins payload readFrames readList encoding
+    outcome bytesTyped program
 program-pinned = refl

@@ -21,7 +21,8 @@ bytes-drop s at w = bytes-right s (take at s) (drop at s) w (sym (take-append-dr
 pub place : (s : List ℕ) (at : ℕ) → at ≤ length s → length s - length (drop at s) ≡ at
 place s at h = rw (length-drop at s) (omega arith)
 
-pub tail-at : (s : List ℕ) (p : ℕ) (pre r : List ℕ) → p ≤ length s → drop p s ≡ pre ++ r → (length s - length r ≡ p + length pre) × (p + length pre ≤ length s) × (drop (p + length pre) s ≡ r)
+pub tail-at : (s : List ℕ) (p : ℕ) (pre r : List ℕ) → p ≤ length s → drop p s ≡ pre ++ r
+    → (length s - length r ≡ p + length pre) × (p + length pre ≤ length s) × (drop (p + length pre) s ≡ r)
 tail-at s p pre r h e =
     let z : length s - p ≡ length pre + length r = sym (length-drop p s) ∙ ap length e ∙ length-append pre r in
     (omega arith, omega arith, rw (← drop-drop, e) (drop-append-seam pre r))

@@ -16,18 +16,21 @@ use Rattle.frames.specs.declared.Refusal.{Refusal}
 use Rattle.frames.specs.declared.Refusal.the-variants.{ListEnds, BadFrame, TooDeep}
 use Rattle.format.specs.Kinds.{known}
 use Rattle.format.specs.Payload.{payload}
-use Rattle.frames.specs.WriteList.{Frames, refused, framed, next, isWritable, frameKind, frameName, untilClose, FrameReader, framePayload, frame, readFrames}
+use Rattle.frames.specs.WriteList.{Frames, refused, framed, next, isWritable, frameKind, frameName, untilClose, FrameReader, framePayload, frame}
+use Rattle.frames.specs.WriteList.{readFrames}
 use Rattle.frames.proofs.FrontLaws.{never, next-got}
 use Rattle.frames.proofs.FramesLocal.{next-refused, LocalFrames, OfFrame, Verdict, Judges, here}
 use Rattle.frames.proofs.FrameParts.{carried, name-got, name-refused, payload-got, payload-refused}
 
 -- ---- a frame
 
-pub kind-got : (f : List ℕ) (o : Known) (s : List ℕ) {k : Kind} {r : List ℕ} → frameKind f o s ≡ framed k r → (s ≡ r) × ((f′ q : List ℕ) → frameKind f′ o q ≡ framed k q)
+pub kind-got : (f : List ℕ) (o : Known) (s : List ℕ) {k : Kind} {r : List ℕ} → frameKind f o s ≡ framed k r
+    → (s ≡ r) × ((f′ q : List ℕ) → frameKind f′ o q ≡ framed k q)
 kind-got f Unknown s h = never h
 kind-got f (Is j) s {k} {r} h = go (isWritable (payload j)) h
   where
-    go : (b : Bool) → cond b (framed j s) (refused BadFrame f) ≡ framed k r → (s ≡ r) × ((f′ q : List ℕ) → cond b (framed j q) (refused BadFrame f′) ≡ framed k q)
+    go : (b : Bool) → cond b (framed j s) (refused BadFrame f) ≡ framed k r
+        → (s ≡ r) × ((f′ q : List ℕ) → cond b (framed j q) (refused BadFrame f′) ≡ framed k q)
     go true h = let z : j ≡ k = cc in (cc, λ f′ q. rw z)
     go false h = never h
 
@@ -43,7 +46,8 @@ module _ {A : Type 0} (p : FrameReader A) (loc : (names : Option (List (List ℕ
   frame-local : (names : Option (List (List ℕ))) → LocalFrames (frame p names)
   frame-local names [] x r h = never h
   frame-local names (b ∷ s) x r h =
-      next-got (frameKind (b ∷ s) (known b) s) _ h λ k u i h₁. next-got (frameName (b ∷ s) names u) _ h₁ λ n q j h₂. next-got (framePayload p (b ∷ s) (payload k) q) _ h₂ λ t v l h₃.
+      next-got (frameKind (b ∷ s) (known b) s) _ h λ k u i h₁. next-got (frameName (b ∷ s) names u) _ h₁ λ n q j h₂.
+      next-got (framePayload p (b ∷ s) (payload k) q) _ h₂ λ t v l h₃.
       let a = kind-got (b ∷ s) (known b) s i in
       let c = name-got (b ∷ s) names u j in
       let d = payload-got p loc k (b ∷ s) (payload k) q refl l in
@@ -52,19 +56,29 @@ module _ {A : Type 0} (p : FrameReader A) (loc : (names : Option (List (List ℕ
         b ∷ (c .0 ++ d .0),
         ap (λ y. b ∷ y) (a .0 ∙ c .1 ∙ ap (λ y. c .0 ++ y) (d .1 ∙ ap (λ y. d .0 ++ y) z) ∙ sym (append-assoc (c .0) (d .0) r)),
         omega arith,
-        λ q′. rw (append-assoc (c .0) (d .0) q′, a .1 (b ∷ (c .0 ++ (d .0 ++ q′))) (c .0 ++ (d .0 ++ q′)), c .2 (b ∷ (c .0 ++ (d .0 ++ q′))) (d .0 ++ q′), d .2 (b ∷ (c .0 ++ (d .0 ++ q′))) q′, y),
+        λ q′. rw (
+          append-assoc (c .0) (d .0) q′,
+          a .1 (b ∷ (c .0 ++ (d .0 ++ q′))) (c .0 ++ (d .0 ++ q′)),
+          c .2 (b ∷ (c .0 ++ (d .0 ++ q′))) (d .0 ++ q′),
+          d .2 (b ∷ (c .0 ++ (d .0 ++ q′))) q′,
+          y,
+        ),
       )
 
   module _ (ref : (names : Option (List (List ℕ))) → Judges (p names)) where
     frame-judges : (names : Option (List (List ℕ))) → Judges (frame p names)
     frame-judges names [] n r l h = absurd (omega arith)
     frame-judges names (b ∷ s) n r l h =
-        next-refused (frameKind (b ∷ s) (known b) s) _ h (λ e. let i = kind-refused (b ∷ s) (known b) s n r e in here (frame p names) (b ∷ s) n r (i .0) l (i .1))
-        λ k u i h₁. next-refused (frameName (b ∷ s) names u) _ h₁ (λ e. let i = name-refused (b ∷ s) names u n r e in here (frame p names) (b ∷ s) n r (i .0) l (i .1))
-        λ m q j h₂. next-refused (framePayload p (b ∷ s) (payload k) q) _ h₂ (λ e. at k u i m q j (payload-refused p loc k ref (b ∷ s) (payload k) q n r e)) (λ t v e h₃. never (sym h₃))
+        next-refused (frameKind (b ∷ s) (known b) s) _ h
+        (λ e. let i = kind-refused (b ∷ s) (known b) s n r e in here (frame p names) (b ∷ s) n r (i .0) l (i .1))
+        λ k u i h₁.
+        next-refused (frameName (b ∷ s) names u) _ h₁ (λ e. let i = name-refused (b ∷ s) names u n r e in here (frame p names) (b ∷ s) n r (i .0) l (i .1))
+        λ m q j h₂. next-refused (framePayload p (b ∷ s) (payload k) q) _ h₂ (λ e. at k u i m q j (payload-refused p loc k ref (b ∷ s) (payload k) q n r e))
+        (λ t v e h₃. never (sym h₃))
       where
         at : (k : Kind) (u : List ℕ) → frameKind (b ∷ s) (known b) s ≡ framed k u → (m q : List ℕ) → frameName (b ∷ s) names u ≡ framed m q
-            → (OfFrame n × (b ∷ s ≡ r)) ⊎ (((n ≡ ListEnds) × (r ≡ [])) ⊎ (OfFrame n × ((w : List ℕ) × (q ≡ w ++ r) × (1 ≤ length r) × ((f′ : List ℕ) → framePayload p f′ (payload k) w ≡ refused ListEnds []))))
+            → (OfFrame n × (b ∷ s ≡ r)) ⊎ (((n ≡ ListEnds) × (r ≡ []))
+            ⊎ (OfFrame n × ((w : List ℕ) × (q ≡ w ++ r) × (1 ≤ length r) × ((f′ : List ℕ) → framePayload p f′ (payload k) w ≡ refused ListEnds []))))
             → Verdict (frame p names) (b ∷ s) n r
         at k u i m q j (inl e) = here (frame p names) (b ∷ s) n r (e .0) l (e .1)
         at k u i m q j (inr (inl e)) = inl e
@@ -104,7 +118,8 @@ until-more {A} p loc (suc m) (suc n) used (b ∷ s) h k = ap (λ o. cond (eqb b 
   where
     go : (o : Frames (List ℕ × A)) → p used (b ∷ s) ≡ o
         → ((used : List (List ℕ)) (s : List ℕ) → length s ≤ m → length s ≤ n → untilClose p n used s ≡ untilClose p m used s)
-        → next o (λ x r. next (untilClose p n (x .0 ∷ used) r) λ xs q. framed (x ∷ xs) q) ≡ next o (λ x r. next (untilClose p m (x .0 ∷ used) r) λ xs q. framed (x ∷ xs) q)
+        → next o (λ x r. next (untilClose p n (x .0 ∷ used) r) λ xs q. framed (x ∷ xs) q)
+        ≡ next o (λ x r. next (untilClose p m (x .0 ∷ used) r) λ xs q. framed (x ∷ xs) q)
     go (refused j r) e ih = refl
     go (framed x r) e ih =
         let w = loc used (b ∷ s) x r e in

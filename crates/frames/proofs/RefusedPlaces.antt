@@ -12,7 +12,8 @@ use lib.Dec.{eqb, ltb}
 use borrow.Author.Tests.{ltb-false, le-ltb}
 use Rattle.number.proofs.Clash.{clash}
 use Rattle.frames.specs.declared.Refusal.{Refusal}
-use Rattle.frames.specs.declared.Refusal.the-variants.{ListEnds, BadFrame, EmptyName, NameUsed, NotText, TooDeep, NoneOpen, Complete, ListTooLong, FewWorkNumbers, EncodingTooLong}
+use Rattle.frames.specs.declared.Refusal.the-variants.{ListEnds, BadFrame, EmptyName, NameUsed, NotText, TooDeep, NoneOpen, Complete, ListTooLong}
+use Rattle.frames.specs.declared.Refusal.the-variants.{FewWorkNumbers, EncodingTooLong}
 use Rattle.frames.specs.declared.Written.the-variants.{Done, Refused}
 use Rattle.format.specs.Limits.{depthLimit, lengthLimit}
 use Rattle.format.specs.Tree.{Tree}
@@ -68,7 +69,8 @@ list-left d (b ∷ s) n r h = go (eqb b 0) refl h
         let y : eqb a 0 ≡ false = (let t : b ≡ a = cc in rw t at z) in
         rw (y, f (omega arith))
 
-    whole : (x : List ℕ × Tree d) (w q : List ℕ) → b ∷ s ≡ w ++ q → 1 ≤ length w → eqb b 0 ≡ false → readFrames d none (w ++ []) ≡ framed x [] → readList d w ≡ framed (x .1) []
+    whole : (x : List ℕ × Tree d) (w q : List ℕ) → b ∷ s ≡ w ++ q → 1 ≤ length w → eqb b 0 ≡ false → readFrames d none (w ++ []) ≡ framed x []
+        → readList d w ≡ framed (x .1) []
     whole x [] q e l z f = absurd (omega arith)
     whole x (a ∷ w) q e l z f =
         let y : eqb a 0 ≡ false = (let t : b ≡ a = cc in rw t at z) in
@@ -84,7 +86,12 @@ list-left d (b ∷ s) n r h = go (eqb b 0) refl h
         let f = frames-local d none (b ∷ s) x (c ∷ q) i in
         let y : Complete ≡ n = cc in
         let u : c ∷ q ≡ r = cc in
-        inr (f .0, f .1 ∙ ap (λ t. f .0 ++ t) u, rw (← u) (omega arith), subst (λ m. Before d m (f .0)) y (x .1, whole x (f .0) (c ∷ q) (f .1) (f .2) z (f .3 [])))
+        inr (
+          f .0,
+          f .1 ∙ ap (λ t. f .0 ++ t) u,
+          rw (← u) (omega arith),
+          subst (λ m. Before d m (f .0)) y (x .1, whole x (f .0) (c ∷ q) (f .1) (f .2) z (f .3 [])),
+        )
 
     go : (t : Bool) → eqb b 0 ≡ t → cond t (refused NoneOpen (b ∷ s)) (next (readFrames d none (b ∷ s)) only) ≡ refused n r → Left d (b ∷ s) n r
     go true z h =
@@ -99,26 +106,30 @@ no-refusal : {X : Type 0} {r : Refusal} {p n : ℕ} → Done n ≡ Refused r p �
 no-refusal h = clash cc
 
 module _ (list output work : List ℕ) where
-  cut-answer : (w : List ℕ) → length w ≤ lengthLimit → readList depthLimit w ≡ refused ListEnds [] → written w output work .answer ≡ Refused ListEnds (length w)
+  cut-answer : (w : List ℕ) → length w ≤ lengthLimit → readList depthLimit w ≡ refused ListEnds []
+      → written w output work .answer ≡ Refused ListEnds (length w)
   unfolding written outcome
   cut-answer w l e =
       let z : length w - 0 ≡ length w = omega arith in
       rw (le-ltb lengthLimit (length w) l, e, z)
 
-  at-frame : (p : ℕ) (w r : List ℕ) → length list ≤ lengthLimit → list ≡ w ++ r → 1 ≤ length r → length w ≡ p → readList depthLimit w ≡ refused ListEnds [] → AtFrame p list output work
+  at-frame : (p : ℕ) (w r : List ℕ) → length list ≤ lengthLimit → list ≡ w ++ r → 1 ≤ length r → length w ≡ p → readList depthLimit w ≡ refused ListEnds []
+      → AtFrame p list output work
   at-frame p w r m e l i f =
       let n : length list ≡ length w + length r = ap length e ∙ length-append w r in
       let t : take p list ≡ w = rw e (take-at w r p i) in
       (omega arith, rw t (cut-answer w (omega arith) f ∙ ap (Refused ListEnds) i))
 
-  behind-top : (p : ℕ) (w r : List ℕ) → list ≡ w ++ r → 1 ≤ length r → length w ≡ p → (t : Tree depthLimit) × (readList depthLimit w ≡ framed t []) → BehindTop p list
+  behind-top : (p : ℕ) (w r : List ℕ) → list ≡ w ++ r → 1 ≤ length r → length w ≡ p
+      → (t : Tree depthLimit) × (readList depthLimit w ≡ framed t []) → BehindTop p list
   behind-top p w r e l i f =
       let n : length list ≡ length w + length r = ap length e ∙ length-append w r in
       let t : take p list ≡ w = rw e (take-at w r p i) in
       (omega arith, rw t f)
 
   placed-left : (n : Refusal) (r : List ℕ) → length list ≤ lengthLimit → Left depthLimit list n r → Placed n (length list - length r) list output work
-  placed-left n r m (inl i) = subst (λ k. Placed k (length list - length r) list output work) (sym (i .0)) (let z : length r ≡ 0 = ap length (i .1) in omega arith)
+  placed-left n r m (inl i) =
+      subst (λ k. Placed k (length list - length r) list output work) (sym (i .0)) (let z : length r ≡ 0 = ap length (i .1) in omega arith)
   placed-left n r m (inr i) = by n (i .3)
     where
       w : List ℕ
@@ -154,7 +165,8 @@ module _ (list output work : List ℕ) where
   unfolding written outcome
   refusal-placed r p h = short (ltb lengthLimit (length list)) refl h
     where
-      fits : (few small : Bool) (e z : List ℕ) → resultOf (cond few (refuse FewWorkNumbers 0) (cond small (refuse EncodingTooLong 0) (wrote e z))) output work .answer ≡ Refused r p → Placed r p list output work
+      fits : (few small : Bool) (e z : List ℕ) → resultOf (cond few (refuse FewWorkNumbers 0) (cond small (refuse EncodingTooLong 0) (wrote e z))) output
+          work .answer ≡ Refused r p → Placed r p list output work
       fits true small e z h = told FewWorkNumbers 0 r p h refl
       fits false true e z h = told EncodingTooLong 0 r p h refl
       fits false false e z h = no-refusal h
@@ -163,9 +175,11 @@ module _ (list output work : List ℕ) where
           → resultOf (outcomeAfter depthLimit (length output) (length work) list f) output work .answer ≡ Refused r p → Placed r p list output work
       read (refused n q) e l h = told n (length list - length q) r p h (placed-left n q l (list-left depthLimit list n q e))
       read (framed t q) e l h =
-          fits (ltb (length work) (length (sizesOf depthLimit t))) (ltb (length output) (length (encoding depthLimit t)) || ltb lengthLimit (length (encoding depthLimit t))) (encoding depthLimit t) (sizesOf depthLimit t) h
+          fits (ltb (length work) (length (sizesOf depthLimit t))) (ltb (length output) (length (encoding depthLimit t))
+          || ltb lengthLimit (length (encoding depthLimit t))) (encoding depthLimit t) (sizesOf depthLimit t) h
 
       short : (b : Bool) → ltb lengthLimit (length list) ≡ b
-          → resultOf (cond b (refuse ListTooLong 0) (outcomeAfter depthLimit (length output) (length work) list (readList depthLimit list))) output work .answer ≡ Refused r p → Placed r p list output work
+          → resultOf (cond b (refuse ListTooLong 0) (outcomeAfter depthLimit (length output) (length work) list (readList depthLimit list))) output
+          work .answer ≡ Refused r p → Placed r p list output work
       short true e h = told ListTooLong 0 r p h refl
       short false e h = read (readList depthLimit list) refl (ltb-false lengthLimit (length list) e) h

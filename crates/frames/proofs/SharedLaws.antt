@@ -67,11 +67,13 @@ module _ {A : Type 0} (kind : A → Kind) where
       go false = refl
 
   -- the shared byte of a uniform container
-  pub shared-byte : (named : Bool) (m : Mark) (xs : List (List ℕ × A)) → uniform named (shared (ids kind xs)) ≡ true → sharedByte m (fieldKinds kind xs) ≡ (flags m + shared (ids kind xs)) ∷ []
+  pub shared-byte : (named : Bool) (m : Mark) (xs : List (List ℕ × A)) → uniform named (shared (ids kind xs)) ≡ true
+      → sharedByte m (fieldKinds kind xs) ≡ (flags m + shared (ids kind xs)) ∷ []
   unfolding shared uniform
   shared-byte named m [] h = untrue h
   shared-byte named m (x ∷ xs) h = go (all (eqb (id (kind (x .1)))) (ids kind xs)) h
     where
-      go : (b : Bool) → uniform named (cond b (id (kind (x .1))) 255) ≡ true → (flags m + id (kind (x .1))) ∷ [] ≡ (flags m + cond b (id (kind (x .1))) 255) ∷ []
+      go : (b : Bool) → uniform named (cond b (id (kind (x .1))) 255) ≡ true
+          → (flags m + id (kind (x .1))) ∷ [] ≡ (flags m + cond b (id (kind (x .1))) 255) ∷ []
       go true h = refl
       go false h = untrue h

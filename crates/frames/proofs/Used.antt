@@ -15,7 +15,9 @@ use Rattle.number.proofs.VarUIntLaws.{encoded-length}
 use Rattle.float.specs.Rule.{holds}
 use Rattle.float.specs.Width.{narrow}
 use Rattle.format.specs.declared.Kind.{Kind}
-use Rattle.format.specs.declared.Kind.the-variants.{Null, Object, UniformObject, Array, UniformArray, Binary, String, IntegerPositive, IntegerNegative, Float32, Float64, False, True, ObjectAttachment, BinaryAttachment, Hash, Uuid, DateTime, TimeSpan, ObjectId, CustomById, CustomByName}
+use Rattle.format.specs.declared.Kind.the-variants.{Null, Object, UniformObject, Array, UniformArray, Binary, String, IntegerPositive, IntegerNegative}
+use Rattle.format.specs.declared.Kind.the-variants.{Float32, Float64, False, True, ObjectAttachment, BinaryAttachment, Hash, Uuid, DateTime, TimeSpan}
+use Rattle.format.specs.declared.Kind.the-variants.{ObjectId, CustomById, CustomByName}
 use Rattle.format.specs.declared.Known.the-variants.{Is}
 use Rattle.frames.specs.declared.Refusal.the-variants.{BadFrame, NotText}
 use Rattle.format.specs.Kinds.{id, known}
@@ -57,8 +59,7 @@ module _ (f : List ℕ) (o : Out Leaf) {v : Leaf} {r : List ℕ} (h : leafFound 
 -- its payload is no longer than what stands in the list
 pub leaf-short : (k : Kind) (p : List ℕ → Out Leaf) → payload k ≡ leaf p → (f s : List ℕ) → Bytes s → {v : Leaf} {r : List ℕ} → leafFound f (p s) ≡ framed v r
     → (pre : List ℕ) × (s ≡ pre ++ r) × (length (leafPayload v) ≤ length pre)
-leaf-short k p e f s w {v} {r} h = leaf-found f (p s) h λ fs y a b c. leaf-got k p e s w y a b c
-    (λ ne z es ek. (leafPayload v, es, omega arith))
+leaf-short k p e f s w {v} {r} h = leaf-found f (p s) h λ fs y a b c. leaf-got k p e s w y a b c (λ ne z es ek. (leafPayload v, es, omega arith))
     (λ ek d. (take 8 s, rw (d .left) (sym (take-append-drop 8 s)), rw (d .bytes, length-take-le 8 s (d .enough)) (go (holds (bitsOf s)) (d .enough))))
   where
     go : (x : Bool) → 8 ≤ length s → length (cond x (toBytes 4 (narrow (bitsOf s))) (take 8 s)) ≤ 8
@@ -78,8 +79,8 @@ kind-array k e = let z : known 4 ≡ Is k = rw e at (known-rt k) in cc
 -- ---- a field
 
 -- its payload: a leaf, or the frames up to the close
-pub payload-case : {A X : Type 0} (p : FrameReader A) (f : List ℕ) (k : Kind) (q : List ℕ) {t : Node A} {r : List ℕ} → isWritable (payload k) ≡ true → framePayload p f (payload k) q ≡ framed t r
-    → ((g : List ℕ → Out Leaf) (v : Leaf) → payload k ≡ leaf g → leafFound f (g q) ≡ framed v r → t ≡ atom v → X)
+pub payload-case : {A X : Type 0} (p : FrameReader A) (f : List ℕ) (k : Kind) (q : List ℕ) {t : Node A} {r : List ℕ} → isWritable (payload k) ≡ true
+    → framePayload p f (payload k) q ≡ framed t r → ((g : List ℕ → Out Leaf) (v : Leaf) → payload k ≡ leaf g → leafFound f (g q) ≡ framed v r → t ≡ atom v → X)
     → ((b : Bool) → id k ≡ cond b 2 4 → (xs : List (List ℕ × A)) → contentsBy b p (length q) [] q ≡ framed xs r → t ≡ nodeOf b xs → X) → X
 unfolding payload
 payload-case {A} {X} p f k q {t} {r} w h c d = by k w h c d
@@ -93,9 +94,11 @@ payload-case {A} {X} p f k q {t} {r} w h c d = by k w h c d
         → (pl ≡ fields → id k ≡ 2) → (pl ≡ items → id k ≡ 4)
         → ((b : Bool) → id k ≡ cond b 2 4 → (xs : List (List ℕ × A)) → contentsBy b p (length q) [] q ≡ framed xs r → t ≡ nodeOf b xs → X) → X
     go k (leaf g) e w h c i j d = a-leaf k g e h c
-    go k fields e w h c i j d = next-got (contentsBy true p (length q) [] q) _ h λ xs u y z. let v : u ≡ r = cc in d true (i refl) xs (y ∙ ap (λ (z : List ℕ). framed xs z) v) (cc)
+    go k fields e w h c i j d =
+        next-got (contentsBy true p (length q) [] q) _ h λ xs u y z. let v : u ≡ r = cc in d true (i refl) xs (y ∙ ap (λ (z : List ℕ). framed xs z) v) (cc)
     go k sharedFields e w h c i j d = untrue w
-    go k items e w h c i j d = next-got (contentsBy false p (length q) [] q) _ h λ xs u y z. let v : u ≡ r = cc in d false (j refl) xs (y ∙ ap (λ (z : List ℕ). framed xs z) v) (cc)
+    go k items e w h c i j d =
+        next-got (contentsBy false p (length q) [] q) _ h λ xs u y z. let v : u ≡ r = cc in d false (j refl) xs (y ∙ ap (λ (z : List ℕ). framed xs z) v) (cc)
     go k sharedItems e w h c i j d = untrue w
 
     by : (k : Kind) → isWritable (payload k) ≡ true → framePayload p f (payload k) q ≡ framed t r
@@ -161,8 +164,9 @@ payload-case {A} {X} p f k q {t} {r} w h c d = by k w h c d
           | CustomByName ↦ λ z. not-items z
         ]
 
-pub frame-case : {A X : Type 0} (p : FrameReader A) (named : Bool) (used : List (List ℕ)) (s : List ℕ) → Bytes s → {x : List ℕ × Node A} {r : List ℕ} → frame p (modeOf named used) s ≡ framed x r
-    → ((k : Kind) (q : List ℕ) → frameFront (modeOf named used) s ≡ framed (x .0, k) q → Fronted named s (x .0, k) q → framePayload p s (payload k) q ≡ framed (x .1) r → X) → X
+pub frame-case : {A X : Type 0} (p : FrameReader A) (named : Bool) (used : List (List ℕ)) (s : List ℕ) → Bytes s → {x : List ℕ × Node A} {r : List ℕ}
+    → frame p (modeOf named used) s ≡ framed x r → ((k : Kind) (q : List ℕ) → frameFront (modeOf named used) s ≡ framed (x .0, k) q
+    → Fronted named s (x .0, k) q → framePayload p s (payload k) q ≡ framed (x .1) r → X) → X
 frame-case p named used [] w h c = never h
 frame-case {A} p named used (b ∷ s) w {x} {r} h c =
     next-got (frameFront (modeOf named used) (b ∷ s)) _ (sym (frame-front p (modeOf named used) (b ∷ s) (omega arith)) ∙ h) λ y q e h₁.
@@ -187,7 +191,8 @@ pub record Used {A : Type 0} (kind : A → Kind) (pay packs : A → List ℕ) (n
   pub three : named ≡ true → 3 ≤ length pre
 
 abbrev pub Uses : {A : Type 0} → (A → Kind) → (A → List ℕ) → (A → List ℕ) → FrameReader A → Type 0
-Uses {A} kind pay packs p = (named : Bool) (used : List (List ℕ)) (s : List ℕ) (x : List ℕ × A) (r : List ℕ) → Bytes s → p (modeOf named used) s ≡ framed x r → Used kind pay packs named s x r
+Uses {A} kind pay packs p = (named : Bool) (used : List (List ℕ)) (s : List ℕ) (x : List ℕ × A) (r : List ℕ) → Bytes s → p (modeOf named used) s ≡ framed x r
+    → Used kind pay packs named s x r
 
 module _ {A : Type 0} (kind : A → Kind) (pay packs : A → List ℕ) (p : FrameReader A) (u : Uses kind pay packs p) where
   pub record ContentsUsed (named : Bool) (s : List ℕ) (xs : List (List ℕ × A)) (r : List ℕ) : Type 0 where
@@ -197,16 +202,18 @@ module _ {A : Type 0} (kind : A → Kind) (pay packs : A → List ℕ) (p : Fram
     pub few : length (concat (λ x. packs (x .1)) xs) + 1 ≤ length pre
     pub count : length xs + 1 ≤ length pre
 
-  pub contents-used : (named : Bool) (n : ℕ) (used : List (List ℕ)) (s : List ℕ) (xs : List (List ℕ × A)) (r : List ℕ) → Bytes s → contentsBy named p n used s ≡ framed xs r → ContentsUsed named s xs r
+  pub contents-used : (named : Bool) (n : ℕ) (used : List (List ℕ)) (s : List ℕ) (xs : List (List ℕ × A)) (r : List ℕ) → Bytes s
+      → contentsBy named p n used s ≡ framed xs r → ContentsUsed named s xs r
   contents-used named zero used s xs r w h = never h
   contents-used named (suc n) used [] xs r w h = never h
   contents-used named (suc n) used (b ∷ s) xs r w h = go (λ v q ys t y e. contents-used named n v q ys t y e) (eqb b 0) h
     where
-      go : ((v : List (List ℕ)) (q : List ℕ) (ys : List (List ℕ × A)) (t : List ℕ) → Bytes q → contentsBy named p n v q ≡ framed ys t → ContentsUsed named q ys t) → (z : Bool)
-          → cond z (framed [] s) (next (p (modeOf named used) (b ∷ s)) λ x r. next (contentsBy named p n (x .0 ∷ used) r) λ xs q. framed (x ∷ xs) q) ≡ framed xs r → ContentsUsed named (b ∷ s) xs r
+      go : ((v : List (List ℕ)) (q : List ℕ) (ys : List (List ℕ × A)) (t : List ℕ) → Bytes q → contentsBy named p n v q ≡ framed ys t
+          → ContentsUsed named q ys t) → (z : Bool)
+          → cond z (framed [] s) (next (p (modeOf named used) (b ∷ s)) λ x r. next (contentsBy named p n (x .0 ∷ used) r) λ xs q. framed (x ∷ xs) q)
+          ≡ framed xs r → ContentsUsed named (b ∷ s) xs r
       go ih true h = let e : [] ≡ xs = cc in rw (← e) (record { pre = b ∷ []; all = cc; small = omega arith; few = omega arith; count = omega arith })
-      go ih false h =
-          next-got (p (modeOf named used) (b ∷ s)) _ h λ x q e h₁. next-got (contentsBy named p n (x .0 ∷ used) q) _ h₁ λ ys t e₁ h₂.
+      go ih false h = next-got (p (modeOf named used) (b ∷ s)) _ h λ x q e h₁. next-got (contentsBy named p n (x .0 ∷ used) q) _ h₁ λ ys t e₁ h₂.
           let a = u named used (b ∷ s) x q w e in
           let i = ih (x .0 ∷ used) q ys t (bytes-right (b ∷ s) (a .pre) q w (a .all)) e₁ in
           let z : x ∷ ys ≡ xs = cc in

@@ -36,7 +36,13 @@ pub described-written : (list : List ℕ) (t : Tree depthLimit) → readList dep
     → written list output work ≡ success t output work
 unfolding written outcome
 described-written list t e w l output work room numbers =
-    rw (le-ltb lengthLimit (length list) l, e, le-ltb (length work) (length (sizesOf depthLimit t)) numbers, le-ltb (length output) (length (encoding depthLimit t)) room, le-ltb lengthLimit (length (encoding depthLimit t)) (w .short))
+    rw (
+      le-ltb lengthLimit (length list) l,
+      e,
+      le-ltb (length work) (length (sizesOf depthLimit t)) numbers,
+      le-ltb (length output) (length (encoding depthLimit t)) room,
+      le-ltb lengthLimit (length (encoding depthLimit t)) (w .short),
+    )
 
 -- So is every tree within the limits, where its list is no longer than 65,536 bytes. That does not follow from its encoding's length
 -- (proofs/Beyond.antt: no list within the limit describes an array of 32,768 zeros)
@@ -53,20 +59,23 @@ half-written t w l = tree-written t (record { within = w; short = omega arith })
 
 -- ---- distinct trees have distinct outputs, whatever the buffers held
 
-pub outputs-apart : (t u : Tree depthLimit) → WithinLimits t → WithinLimits u → (a b : List ℕ) → encoding depthLimit t ++ a ≡ encoding depthLimit u ++ b → t ≡ u
+pub outputs-apart : (t u : Tree depthLimit) → WithinLimits t → WithinLimits u → (a b : List ℕ)
+    → encoding depthLimit t ++ a ≡ encoding depthLimit u ++ b → t ≡ u
 outputs-apart t u v w a b e =
     let i = reading-gives-back t v a in
     let j = reading-gives-back u w b in
     same (kindOf depthLimit t) (kindOf depthLimit u) (i .0) (j .0) (sym (i .2) ∙ ap (read depthLimit Top) e ∙ j .2) (i .1) (j .1)
   where
-    same : (k l : Kind) (x y : Layout depthLimit) → _≡_ {A = Out (Named (Standing (Layout depthLimit)))} (got ([], (k, x)) [] a) (got ([], (l, y)) [] b) → tree depthLimit x ≡ t → tree depthLimit y ≡ u → t ≡ u
+    same : (k l : Kind) (x y : Layout depthLimit) → _≡_ {A = Out (Named (Standing (Layout depthLimit)))} (got ([], (k, x)) [] a) (got ([], (l, y)) [] b)
+        → tree depthLimit x ≡ t → tree depthLimit y ≡ u → t ≡ u
     same k l x y h i j =
         let p : _≡_ {A = Named (Standing (Layout depthLimit))} ([], (k, x)) ([], (l, y)) = cc in
         sym i ∙ ap (λ (q : Named (Standing (Layout depthLimit))). tree depthLimit (q .1 .1)) p ∙ j
 
 -- two successes that leave the same output were given lists of the same tree
 pub same-output-same-tree : (list list′ output output′ work work′ : List ℕ) (n n′ : ℕ) → Bytes list → Bytes list′
-    → written list output work .answer ≡ Done n → written list′ output′ work′ .answer ≡ Done n′ → written list output work .output ≡ written list′ output′ work′ .output
+    → written list output work .answer ≡ Done n → written list′ output′ work′ .answer ≡ Done n′
+    → written list output work .output ≡ written list′ output′ work′ .output
     → readList depthLimit list ≡ readList depthLimit list′
 same-output-same-tree list list′ output output′ work work′ n n′ w w′ h h′ e =
     let i = written-is-encoding list output work n w h in
@@ -88,7 +97,8 @@ leaf-bytes v w l = let i = bytes-of-encoding 1 (atom v) w (omega arith) in (omeg
 name-bytes : (n : List ℕ) → NameWithin n → length (withSize n) ≤ lengthLimit → Bytes (withSize n)
 name-bytes n w l = leaf-bytes (string n) (w .0) l .1
 
-concat-bytes : {A : Type 0} (f : A → List ℕ) (W : A → Type 0) → ((a : A) → W a → length (f a) ≤ lengthLimit → Bytes (f a)) → (xs : List A) → All W xs → length (concat f xs) ≤ lengthLimit → Bytes (concat f xs)
+concat-bytes : {A : Type 0} (f : A → List ℕ) (W : A → Type 0) → ((a : A) → W a → length (f a) ≤ lengthLimit → Bytes (f a)) → (xs : List A) → All W xs
+    → length (concat f xs) ≤ lengthLimit → Bytes (concat f xs)
 concat-bytes f W g [] w l = tt
 concat-bytes f W g (x ∷ xs) w l =
     let m : length (f x) + length (concat f xs) ≤ lengthLimit = rw length-append at l in
@@ -105,14 +115,20 @@ node-bytes W f g name (atom v) w k l =
 node-bytes W f g name (array xs) w k l =
     let c = concat (f []) xs in
     let m = length-append name (c ++ close) in
-    let o = length-append c close in
-    (omega arith, bytes-both name (c ++ close) (k (omega arith)) (bytes-both c close (concat-bytes (f []) W (λ a v n. g [] a v (λ _. tt) n) xs w (omega arith)) (omega arith, tt)))
+    let o = length-append c close in (
+      omega arith,
+      bytes-both name (c ++ close) (k (omega arith))
+          (bytes-both c close (concat-bytes (f []) W (λ a v n. g [] a v (λ _. tt) n) xs w (omega arith)) (omega arith, tt)),
+    )
 node-bytes W f g name (object xs) w k l =
     let e : List ℕ × _ → List ℕ = λ x. f (withSize (x .0)) (x .1) in
     let c = concat e xs in
     let m = length-append name (c ++ close) in
-    let o = length-append c close in
-    (omega arith, bytes-both name (c ++ close) (k (omega arith)) (bytes-both c close (concat-bytes e (λ x. NameWithin (x .0) × W (x .1)) (λ x v n. g (withSize (x .0)) (x .1) (v .1) (name-bytes (x .0) (v .0)) n) xs (w .0) (omega arith)) (omega arith, tt)))
+    let o = length-append c close in (
+      omega arith,
+      bytes-both name (c ++ close) (k (omega arith)) (bytes-both c close (concat-bytes e (λ x. NameWithin (x .0) × W (x .1))
+          (λ x v n. g (withSize (x .0)) (x .1) (v .1) (name-bytes (x .0) (v .0)) n) xs (w .0) (omega arith)) (omega arith, tt)),
+    )
 
 frames-bytes : (d : ℕ) → FramesBytes (Within d) (framesOf d)
 frames-bytes zero = λ name a. absurd a

@@ -18,10 +18,18 @@ pub record WrittenAs (t : Tree depthLimit) (output work : List ℕ) (result : Re
   pub output-is : result .output ≡ encoding depthLimit t ++ drop (length (encoding depthLimit t)) output
   pub work-is : result .work ≡ sizesOf depthLimit t ++ zeros (length work - length (sizesOf depthLimit t))
 
-pub described-list-written : (list : List ℕ) (t : Tree depthLimit) → readList depthLimit list ≡ framed t [] → length list ≤ lengthLimit → length (encoding depthLimit t) ≤ lengthLimit
-    → (output work : List ℕ) → length (encoding depthLimit t) ≤ length output → length (sizesOf depthLimit t) ≤ length work → WrittenAs t output work (written list output work)
+pub described-list-written : (list : List ℕ) (t : Tree depthLimit) → readList depthLimit list ≡ framed t [] → length list ≤ lengthLimit
+    → length (encoding depthLimit t) ≤ lengthLimit
+    → (output work : List ℕ) → length (encoding depthLimit t) ≤ length output → length (sizesOf depthLimit t) ≤ length work
+    → WrittenAs t output work (written list output work)
 unfolding written outcome
 described-list-written list t e l m output work room numbers =
     let z : written list output work ≡ resultOf (wrote (encoding depthLimit t) (sizesOf depthLimit t)) output work =
-    rw (le-ltb lengthLimit (length list) l, e, le-ltb (length work) (length (sizesOf depthLimit t)) numbers, le-ltb (length output) (length (encoding depthLimit t)) room, le-ltb lengthLimit (length (encoding depthLimit t)) m) in
+    rw (
+      le-ltb lengthLimit (length list) l,
+      e,
+      le-ltb (length work) (length (sizesOf depthLimit t)) numbers,
+      le-ltb (length output) (length (encoding depthLimit t)) room,
+      le-ltb lengthLimit (length (encoding depthLimit t)) m,
+    ) in
     record { answer-is = ap (λ r. r .answer) z; output-is = ap (λ r. r .output) z; work-is = ap (λ r. r .work) z }

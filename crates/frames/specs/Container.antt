@@ -54,7 +54,8 @@ fieldPart named typed kind pay x = typePart named typed (id (kind (x .1))) ++ (n
 
 -- c is the shared ID of the fields
 abbrev pub bodyBy : {A : Type 0} → Bool → ℕ → (A → Kind) → (A → List ℕ) → List (List ℕ × A) → List ℕ
-bodyBy named c kind pay xs = countPart named (length xs) ++ (sharedPart named (uniform named c) c ++ concat (fieldPart named (not (uniform named c)) kind pay) xs)
+bodyBy named c kind pay xs =
+    countPart named (length xs) ++ (sharedPart named (uniform named c) c ++ concat (fieldPart named (not (uniform named c)) kind pay) xs)
 
 abbrev pub body : {A : Type 0} → Bool → (A → Kind) → (A → List ℕ) → List (List ℕ × A) → List ℕ
 body named kind pay xs = bodyBy named (shared (ids kind xs)) kind pay xs

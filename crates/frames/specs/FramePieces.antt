@@ -1,5 +1,5 @@
--- A frame in pieces: what stands before its payload, a leaf, and what a container holds. Nothing here has to be believed: proofs/FrontLaws.antt shows that it is
--- the write list's frame.
+-- A frame in pieces: what stands before its payload, a leaf, and what a container holds. Nothing here has to be believed: proofs/FrontLaws.antt shows that it
+-- is the write list's frame.
 use Prim.Native.Nat.{ℕ}
 use mathlib.Core.Bool.{Bool, true, false, cond}
 use mathlib.Core.Option.{Option, none, some}

@@ -4,14 +4,16 @@ use mathlib.Core.Path.{_≡_}
 use mathlib.Core.List.{List, []}
 use lib.ListN.{length, take}
 use Rattle.frames.specs.declared.Refusal.{Refusal}
-use Rattle.frames.specs.declared.Refusal.the-variants.{ListEnds, BadFrame, EmptyName, NameUsed, NotText, TooDeep, NoneOpen, Complete, ListTooLong, FewWorkNumbers, EncodingTooLong}
+use Rattle.frames.specs.declared.Refusal.the-variants.{ListEnds, BadFrame, EmptyName, NameUsed, NotText, TooDeep, NoneOpen, Complete, ListTooLong}
+use Rattle.frames.specs.declared.Refusal.the-variants.{FewWorkNumbers, EncodingTooLong}
 use Rattle.frames.specs.declared.Written.the-variants.{Refused}
 use Rattle.format.specs.Limits.{depthLimit}
 use Rattle.format.specs.Tree.{Tree}
 use Rattle.frames.specs.WriteList.{framed, readList}
 use Rattle.frames.specs.Writer.{written}
 
--- a frame begins at p, and no frame before it is faulty: the list cut there is refused with 1, at its end. (Cut inside a frame it would be refused at that frame, and never with 1.)
+-- a frame begins at p, and no frame before it is faulty: the list cut there is refused with 1, at its end. (Cut inside a frame it would be refused at that
+-- frame, and never with 1.)
 abbrev pub AtFrame : ℕ → List ℕ → List ℕ → List ℕ → Type 0
 AtFrame p list output work = (p < length list) × (written (take p list) output work .answer ≡ Refused ListEnds p)
 

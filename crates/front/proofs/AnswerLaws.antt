@@ -43,7 +43,8 @@ answer-whole stop go m g (fault k) r = refl
 answer-whole stop go m g (got x fs []) r = refl
 answer-whole stop go m g (got x fs (c ∷ q)) r = refl
 
-pub answer-make : {A B C : Type 0} (stop : Stop → C) (go : B → Faults → List ℕ → C) (m : Modes) (g : Faults) (f : A → B) (o : Out A) → answerOf stop go m g (make f o) ≡ answerOf stop (λ x. go (f x)) m g o
+pub answer-make : {A B C : Type 0} (stop : Stop → C) (go : B → Faults → List ℕ → C) (m : Modes) (g : Faults) (f : A → B) (o : Out A)
+    → answerOf stop go m g (make f o) ≡ answerOf stop (λ x. go (f x)) m g o
 answer-make stop go m g f o = answer-bind stop go m g o _ ∙ at o
   where
     at : (o : Out _) → answerOf stop (λ a e r. go (f a) (noted m e []) r) m g o ≡ answerOf stop (λ x. go (f x)) m g o

@@ -42,23 +42,28 @@ use Rattle.front.proofs.SpanLaws.{spanThen, text-is}
 abbrev fieldOf : ℕ → List ℕ × Kind → Faults → List ℕ → Front
 fieldOf n x h r = F.Read (x .1) (n - length r - length (x .0)) (n - length r) h
 
-named-then : (k : Kind) (from : ℕ) (m : Modes) (x : Span) → spanThen F.Stop (λ a e h. F.Read k (from + a) (from + e) (noted m h (flawIf (eqb a e) Blank))) x ≡ namedOf k from m x
+named-then : (k : Kind) (from : ℕ) (m : Modes) (x : Span)
+    → spanThen F.Stop (λ a e h. F.Read k (from + a) (from + e) (noted m h (flawIf (eqb a e) Blank))) x ≡ namedOf k from m x
 named-then k from m (P.Stop j) = refl
 named-then k from m (P.Part a e h) = refl
 
-named-is : (k : Kind) (n from : ℕ) (m : Modes) (g : Faults) (t : List ℕ) → n ≡ from + length t → answerOf F.Stop (fieldOf n) m g (bind (readName t) λ x q. got (x, k) [] q) ≡ namedOf k from m (textAt m g t)
+named-is : (k : Kind) (n from : ℕ) (m : Modes) (g : Faults) (t : List ℕ) → n ≡ from + length t
+    → answerOf F.Stop (fieldOf n) m g (bind (readName t) λ x q. got (x, k) [] q) ≡ namedOf k from m (textAt m g t)
 named-is k n from m g t e =
     answer-bind F.Stop (fieldOf n) m g (readName t) _
-    ∙ (answer-bind F.Stop _ m g (readText t) _ ∙ (text-is F.Stop m g t _ (λ a b h. F.Read k (from + a) (from + b) (noted m h (flawIf (eqb a b) Blank))) one ∙ named-then k from m (textAt m g t)))
+    ∙ (answer-bind F.Stop _ m g (readText t) _
+    ∙ (text-is F.Stop m g t _ (λ a b h. F.Read k (from + a) (from + b) (noted m h (flawIf (eqb a b) Blank))) one ∙ named-then k from m (textAt m g t)))
   where
     one : (a b : ℕ) (h : Faults) → Inside a b t
-        → answerOf F.Stop (λ x h q. answerOf F.Stop (fieldOf n) m h (got (x, k) [] q)) m h (raise (isEmpty (between a b t)) Blank (got (between a b t) [] (drop b t))) ≡ F.Read k (from + a) (from + b) (noted m h (flawIf (eqb a b) Blank))
+        → answerOf F.Stop (λ x h q. answerOf F.Stop (fieldOf n) m h (got (x, k) [] q)) m h
+        (raise (isEmpty (between a b t)) Blank (got (between a b t) [] (drop b t))) ≡ F.Read k (from + a) (from + b) (noted m h (flawIf (eqb a b) Blank))
     one a b h i =
         let f = noted m h (flawIf (eqb a b) Blank) in
         let x : n - length (drop b t) ≡ from + b = rw (length-drop b t) (omega (arith, i .within)) in
         let y : from + b - length (between a b t) ≡ from + a = rw (part-length a b t i) (omega (arith, i .order)) in
         rw (
-          answer-raise F.Stop (λ x h q. answerOf F.Stop (fieldOf n) m h (got (x, k) [] q)) m h (isEmpty (between a b t)) Blank (got (between a b t) [] (drop b t)),
+          answer-raise F.Stop (λ x h q. answerOf F.Stop (fieldOf n) m h (got (x, k) [] q)) m h (isEmpty (between a b t)) Blank
+              (got (between a b t) [] (drop b t)),
           empty-at a b t i,
           noted-none m f,
           noted-none m f,
@@ -78,7 +83,8 @@ type-is stop go m g mark b t l f h = at (kindAt mark b)
 one-less : (n : ℕ) → suc n - n ≡ 1
 one-less n = omega arith
 
-plain-is : (m : Modes) (g : Faults) (mark : Mark) (s : List ℕ) → answerOf F.Stop (fieldOf (length s)) m g (bind (readType mark s) λ k r. got ([], k) [] r) ≡ plainOf g (typedAt mark s)
+plain-is : (m : Modes) (g : Faults) (mark : Mark) (s : List ℕ)
+    → answerOf F.Stop (fieldOf (length s)) m g (bind (readType mark s) λ k r. got ([], k) [] r) ≡ plainOf g (typedAt mark s)
 unfolding typedAt
 plain-is m g mark [] = refl
 plain-is m g mark (b ∷ t) =

@@ -83,7 +83,8 @@ module _ (m : Modes) (g : Faults) (s : List ℕ) (x : Span) (e : x ≡ spanAt m 
   unfolding spanAt
   span-inside = at (varUInt s) refl (sym z ∙ e)
     where
-      fits : (v n : ℕ) (f : Faults) (c : Bool) → n ≤ length s → ltb (length s - n) v ≡ c → P.Part a b h ≡ cond c (P.Stop Early) (P.Part n (n + v) f) → Inside a b s
+      fits : (v n : ℕ) (f : Faults) (c : Bool) → n ≤ length s → ltb (length s - n) v ≡ c
+          → P.Part a b h ≡ cond c (P.Stop Early) (P.Part n (n + v) f) → Inside a b s
       fits v n f true l t y = clash cc
       fits v n f false l t y =
           let p : a ≡ n = cc in
@@ -127,7 +128,10 @@ module _ (m : Modes) (g : Faults) (s : List ℕ) (x : Span) (e : x ≡ textAt m 
       at (P.Part c d f) t y =
           let p : a ≡ c = cc in
           let q : b ≡ d = cc in
-          record { order = omega (arith, span-order m g s (P.Part c d f) (sym t) c d f refl); within = omega (arith, span-within m g s (P.Part c d f) (sym t) c d f refl) }
+          record {
+            order = omega (arith, span-order m g s (P.Part c d f) (sym t) c d f refl);
+            within = omega (arith, span-within m g s (P.Part c d f) (sym t) c d f refl);
+          }
 
   pub text-order : a ≤ b
   text-order = text-inside .order
@@ -142,12 +146,14 @@ module _ (k : Kind) (from : ℕ) (m : Modes) (g : Faults) (s : List ℕ) (x : Sp
   unfolding namedAt
   named-stop j z = rw (← e, z)
 
-  pub named-read : (a b : ℕ) (h f : Faults) → x ≡ P.Part a b h → f ≡ noted m h (flawIf (eqb a b) Blank) → F.Read k (from + a) (from + b) f ≡ namedAt k from m g s
+  pub named-read : (a b : ℕ) (h f : Faults) → x ≡ P.Part a b h → f ≡ noted m h (flawIf (eqb a b) Blank)
+      → F.Read k (from + a) (from + b) f ≡ namedAt k from m g s
   unfolding namedAt
   named-read a b h f z w = rw (← e, z, w)
 
 -- where it stands in the whole part
-module _ (from : ℕ) (m : Modes) (g : Faults) (s : List ℕ) (x : Span) (l : from ≤ length s) (e : x ≡ textAt m g (between from (length s) s)) (a b : ℕ) (h : Faults) (z : x ≡ P.Part a b h) where
+module _ (from : ℕ) (m : Modes) (g : Faults) (s : List ℕ) (x : Span) (l : from ≤ length s) (e : x ≡ textAt m g (between from (length s) s)) (a b : ℕ)
+    (h : Faults) (z : x ≡ P.Part a b h) where
   pub named-end : from + b ≤ length s
   named-end =
       let n : length (between from (length s) s) ≡ length s - from = part-length from (length s) s (record { order = l; within = omega arith }) in
@@ -181,7 +187,8 @@ module _ (f : Form) (m : Modes) (g : Faults) (s : List ℕ) (r : Front) where
 pub front-bare : (f : Form) (m : Modes) (g : Faults) (s : List ℕ) (k : Kind) → f ≡ SharedItem k → F.Read k 0 0 g ≡ frontAt f m g s
 front-bare f m g s k z = rw (z, front-is (SharedItem k) m g s)
 
-pub front-stop : (f : Form) (m : Modes) (g : Faults) (s : List ℕ) (x : Typed) (j : Stop) → f ≡ Field → x ≡ typedAt OfField s → x ≡ T.Stop j → F.Stop j ≡ frontAt f m g s
+pub front-stop : (f : Form) (m : Modes) (g : Faults) (s : List ℕ) (x : Typed) (j : Stop) → f ≡ Field → x ≡ typedAt OfField s → x ≡ T.Stop j
+    → F.Stop j ≡ frontAt f m g s
 front-stop f m g s x j z e y = rw (z, front-is Field m g s, ← e, y)
 
 pub typed-some : (m : Mark) (s : List ℕ) (x : Typed) (k : Kind) → x ≡ typedAt m s → x ≡ T.Is k → 1 ≤ length s

@@ -54,9 +54,11 @@ module _ {B : Type 0} (stop : Stop → B) (m : Modes) (g : Faults) (s : List ℕ
   span-same k l f = at (varUInt s) refl
     where
       fits : (v n : ℕ) (x z : Bool) → n ≤ length s → ltb (length s - n) v ≡ z
-          → spanThen stop k (cond z (P.Stop Early) (P.Part n (n + v) (noted m g (flawIf (not x) Long)))) ≡ spanThen stop l (cond z (P.Stop Early) (P.Part n (n + v) (noted m g (flawIf (not x) Long))))
+          → spanThen stop k (cond z (P.Stop Early) (P.Part n (n + v) (noted m g (flawIf (not x) Long))))
+          ≡ spanThen stop l (cond z (P.Stop Early) (P.Part n (n + v) (noted m g (flawIf (not x) Long))))
       fits v n x true r e = refl
-      fits v n x false r e = f n (n + v) (noted m g (flawIf (not x) Long)) (record { order = omega arith; within = omega (arith, ltb-false (length s - n) v e) })
+      fits v n x false r e =
+          f n (n + v) (noted m g (flawIf (not x) Long)) (record { order = omega arith; within = omega (arith, ltb-false (length s - n) v e) })
 
       at : (o : VarUInt) → varUInt s ≡ o → spanThen stop k (spanOf m g (length s) o) ≡ spanThen stop l (spanOf m g (length s) o)
       at N.Cut e = refl
@@ -73,27 +75,32 @@ module _ {B : Type 0} (stop : Stop → B) (m : Modes) (g : Faults) (s : List ℕ
       fits v n h true e = rw (length-drop n s, e)
       fits v n h false e = let d : n + v - n ≡ v = omega arith in rw (length-drop n s, e, d, drop-drop v n s)
 
-      at : (o : VarUInt) → numberThen (stop Early) (λ v n x. answerOf stop go m (noted m g (flawIf (not x) Long)) (cond (ltb (length (drop n s)) v) (fault Early) (whole (p (take v (drop n s))) (drop v (drop n s))))) o
+      at : (o : VarUInt) → numberThen (stop Early) (λ v n x. answerOf stop go m (noted m g (flawIf (not x) Long))
+          (cond (ltb (length (drop n s)) v) (fault Early) (whole (p (take v (drop n s))) (drop v (drop n s))))) o
           ≡ spanThen stop (λ a e h. answerOf stop go m h (whole (p (between a e s)) (drop e s))) (spanOf m g (length s) o)
       at N.Cut = refl
       at (N.Whole v n x) = fits v n (noted m g (flawIf (not x) Long)) (ltb (length s - n) v) refl
 
   -- the law that the sized kinds share
   pub sized-is : {A : Type 0} (go : A → Faults → List ℕ → B) (p : List ℕ → Out A) (l : ℕ → ℕ → Faults → B)
-      → ((a e : ℕ) (h : Faults) → Inside a e s → answerOf stop go m h (whole (p (between a e s)) (drop e s)) ≡ l a e h) → answerOf stop go m g (sized p s) ≡ spanThen stop l (spanAt m g s)
+      → ((a e : ℕ) (h : Faults) → Inside a e s → answerOf stop go m h (whole (p (between a e s)) (drop e s)) ≡ l a e h)
+      → answerOf stop go m g (sized p s) ≡ spanThen stop l (spanAt m g s)
   sized-is go p l f = answer-sized go p ∙ span-same _ l f
 
 -- ---- text
 
 module _ {B : Type 0} (stop : Stop → B) (m : Modes) (g : Faults) (s : List ℕ) where
   -- a span's answer with the text looked at
-  text-then : (k : ℕ → ℕ → Faults → B) (x : Span) → spanThen stop (λ a e h. k a e (noted m h (flawIf (not (isText (between a e s))) NotUtf8))) x ≡ spanThen stop k (textOf m s x)
+  text-then : (k : ℕ → ℕ → Faults → B) (x : Span)
+      → spanThen stop (λ a e h. k a e (noted m h (flawIf (not (isText (between a e s))) NotUtf8))) x ≡ spanThen stop k (textOf m s x)
   text-then k (P.Stop j) = refl
   text-then k (P.Part a e h) = refl
 
-  text-same : (k l : ℕ → ℕ → Faults → B) → ((a e : ℕ) (h : Faults) → Inside a e s → k a e h ≡ l a e h) → spanThen stop k (textAt m g s) ≡ spanThen stop l (textAt m g s)
+  text-same : (k l : ℕ → ℕ → Faults → B) → ((a e : ℕ) (h : Faults) → Inside a e s → k a e h ≡ l a e h)
+      → spanThen stop k (textAt m g s) ≡ spanThen stop l (textAt m g s)
   unfolding textAt
-  text-same k l f = sym (text-then k (spanAt m g s)) ∙ (span-same stop m g s _ _ (λ a e h i. f a e (noted m h (flawIf (not (isText (between a e s))) NotUtf8)) i) ∙ text-then l (spanAt m g s))
+  text-same k l f = sym (text-then k (spanAt m g s))
+      ∙ (span-same stop m g s _ _ (λ a e h i. f a e (noted m h (flawIf (not (isText (between a e s))) NotUtf8)) i) ∙ text-then l (spanAt m g s))
 
   pub text-is : (go : List ℕ → Faults → List ℕ → B) (l : ℕ → ℕ → Faults → B)
       → ((a e : ℕ) (h : Faults) → Inside a e s → go (between a e s) h (drop e s) ≡ l a e h)
@@ -103,7 +110,12 @@ module _ {B : Type 0} (stop : Stop → B) (m : Modes) (g : Faults) (s : List ℕ
       answer-bind stop go m g (sized rest s) _
       ∙ (sized-is stop m g s _ rest (λ a e h. l a e (noted m h (flawIf (not (isText (between a e s))) NotUtf8))) one ∙ text-then l (spanAt m g s))
     where
-      one : (a e : ℕ) (h : Faults) → Inside a e s → answerOf stop go m (noted m h []) (raise (not (isText (between a e s))) NotUtf8 (got (between a e s) [] (drop e s))) ≡ l a e (noted m h (flawIf (not (isText (between a e s))) NotUtf8))
+      one : (a e : ℕ) (h : Faults) → Inside a e s → answerOf stop go m (noted m h []) (raise (not (isText (between a e s))) NotUtf8
+          (got (between a e s) [] (drop e s))) ≡ l a e (noted m h (flawIf (not (isText (between a e s))) NotUtf8))
       one a e h i =
-          rw (noted-none m h, answer-raise stop go m h (not (isText (between a e s))) NotUtf8 (got (between a e s) [] (drop e s)), noted-none m (noted m h (flawIf (not (isText (between a e s))) NotUtf8)))
+          rw (
+            noted-none m h,
+            answer-raise stop go m h (not (isText (between a e s))) NotUtf8 (got (between a e s) [] (drop e s)),
+            noted-none m (noted m h (flawIf (not (isText (between a e s))) NotUtf8)),
+          )
           (f a e (noted m h (flawIf (not (isText (between a e s))) NotUtf8)) i)

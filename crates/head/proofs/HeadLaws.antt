@@ -22,7 +22,8 @@ use Rattle.format.specs.declared.Flaw.the-variants.{Long}
 use Rattle.format.specs.Parse.{Out, bind, whole, readVarUInt, sized}
 use Rattle.format.specs.Tree.{integer, binary, string}
 use Rattle.format.specs.Payload as read
-use Rattle.format.specs.Payload.{Head, payload, readFields, readItems, readSharedFields, readSharedItems, head, Shape, nothing, bytes, text, positive, negative, wide, behind, shapeOf, classIn, classOf, payloadIn}
+use Rattle.format.specs.Payload.{Head, payload, readFields, readItems, readSharedFields, readSharedItems, head, Shape, nothing, bytes, text, positive}
+use Rattle.format.specs.Payload.{negative, wide, behind, shapeOf, classIn, classOf, payloadIn}
 use Rattle.format.proofs.SharedKind.{by-fields, by-items}
 use Rattle.faults.specs.Noted.{noted, flawIf}
 use Rattle.front.specs.Code.{answerOf}
@@ -35,7 +36,8 @@ use Rattle.front.proofs.AnswerLaws.{answer-bind, answer-whole, ended}
 use Rattle.front.proofs.BetweenLaws.{Inside, part-at, part-length, past-at, rest-at}
 use Rattle.front.proofs.SpanLaws.{answer-number, sized-is}
 use Rattle.number.proofs.NumberThenLaws.{number-same}
-use Rattle.head.proofs.LeafLaws.{by-id-is, by-name-is, double-is, fixed-is, headOf, inside-then, negative-is, nothing-is, positive-is, sized-leaf, text-leaf}
+use Rattle.head.proofs.LeafLaws.{by-id-is, by-name-is, double-is, fixed-is, headOf, inside-then, negative-is, nothing-is, positive-is, sized-leaf}
+use Rattle.head.proofs.LeafLaws.{text-leaf}
 
 module _ (m : Modes) (g : Faults) (s : List ℕ) where
   -- a kind whose payload is p behind a size

@@ -45,7 +45,8 @@ module _ (m : Modes) (g : Faults) (t : List ℕ) (x : VarUInt) (e : x ≡ varUIn
   pub count-cut : (a b : ℕ) → x ≡ N.Cut → H.Stop Early ≡ countOf m g a b (varUInt t)
   count-cut a b z = rw (← e, z)
 
-  pub count-whole : (a b v n : ℕ) (u : Bool) (h : Faults) → x ≡ N.Whole v n u → h ≡ noted m g (flawIf (not u) Long) → H.Items Item v (a + n) b h ≡ countOf m g a b (varUInt t)
+  pub count-whole : (a b v n : ℕ) (u : Bool) (h : Faults) → x ≡ N.Whole v n u → h ≡ noted m g (flawIf (not u) Long)
+      → H.Items Item v (a + n) b h ≡ countOf m g a b (varUInt t)
   count-whole a b v n u h z w = rw (← e, z, w)
 
   pub shared-cut : (a b : ℕ) → x ≡ N.Cut → H.Stop Early ≡ sharedCountOf m g a b t (varUInt t)
@@ -70,7 +71,8 @@ module _ (g : Faults) (a b : ℕ) (s : List ℕ) where
     pub fields-bad : (k : Kind) → o ≡ kindAt SharedByFields (getD s a 0) → o ≡ W.Is k → b - a < 2 → H.Stop BadUniform ≡ sharedFieldsOf g a b (between a b s)
     fields-bad k e z y = rw (part-cons a b s less w, ← e, z, lt-ltb (b - a) 2 y)
 
-    pub fields-good : (k : Kind) → o ≡ kindAt SharedByFields (getD s a 0) → o ≡ W.Is k → 2 ≤ b - a → H.Fields (SharedField k) (a + 1) b g ≡ sharedFieldsOf g a b (between a b s)
+    pub fields-good : (k : Kind) → o ≡ kindAt SharedByFields (getD s a 0) → o ≡ W.Is k → 2 ≤ b - a
+        → H.Fields (SharedField k) (a + 1) b g ≡ sharedFieldsOf g a b (between a b s)
     fields-good k e z y = rw (part-cons a b s less w, ← e, z, le-ltb (b - a) 2 y)
 
     module _ (n : ℕ) (e : o ≡ kindAt SharedByItems (getD s a 0)) where
@@ -89,11 +91,13 @@ module _ (g : Faults) (a b : ℕ) (s : List ℕ) where
 
 -- ---- behind a count
 
-module _ (a b : ℕ) (s : List ℕ) (i : a ≤ b) (w : b ≤ length s) (x : VarUInt) (e : x ≡ varUInt (between a b s)) (v n : ℕ) (u : Bool) (z : x ≡ N.Whole v n u) where
+module _ (a b : ℕ) (s : List ℕ) (i : a ≤ b) (w : b ≤ length s) (x : VarUInt) (e : x ≡ varUInt (between a b s)) (v n : ℕ) (u : Bool)
+    (z : x ≡ N.Whole v n u) where
   pub count-in : a + n ≤ b
   count-in = omega (arith, var-range (between a b s) v n u (sym e ∙ z) .2, part-length a b s (record { order = i; within = w }))
 
-  pub shared-whole : (m : Modes) (g h : Faults) (r : Heading) → h ≡ noted m g (flawIf (not u) Long) → r ≡ sharedItemsOf h v (a + n) b (between (a + n) b s) → r ≡ sharedCountOf m g a b (between a b s) (varUInt (between a b s))
+  pub shared-whole : (m : Modes) (g h : Faults) (r : Heading) → h ≡ noted m g (flawIf (not u) Long) → r ≡ sharedItemsOf h v (a + n) b (between (a + n) b s)
+      → r ≡ sharedCountOf m g a b (between a b s) (varUInt (between a b s))
   shared-whole m g h r y k = rw (← e, z, ← y, part-rest a b n s) k
 
 -- ---- behind a size

@@ -46,7 +46,8 @@ itemOf k a b (H.Leaf e v) = M.Leaf k a b e v
 itemOf k a b (H.Fields o c e v) = M.Fields k a b o c e v
 itemOf k a b (H.Items o w c e v) = M.Items k a b o w c e v
 
-meet-item : (k : Kind) (m : Modes) (g : Faults) (s : List ℕ) → meetAt (SharedItem k) m g s ≡ itemOf k (length s - length s - 0) (length s - length s) (headAt k m g s)
+meet-item : (k : Kind) (m : Modes) (g : Faults) (s : List ℕ)
+    → meetAt (SharedItem k) m g s ≡ itemOf k (length s - length s - 0) (length s - length s) (headAt k m g s)
 unfolding headAt
 meet-item k m g s = meet-by (SharedItem k) m g s [] k [] s (front-item k s) ∙ rw (noted-none m g) (at (head k s))
   where

@@ -106,7 +106,8 @@ module _ (m : Modes) (g : Faults) (s : List ℕ) where
             past 8 l,
           )
 
-  pub sized-leaf : (made : List ℕ → Leaf) → answerOf H.Stop (headOf (length s)) m g (make value (make made (sized rest s))) ≡ insideOf I.Bytes m s (spanAt m g s)
+  pub sized-leaf : (made : List ℕ → Leaf)
+      → answerOf H.Stop (headOf (length s)) m g (make value (make made (sized rest s))) ≡ insideOf I.Bytes m s (spanAt m g s)
   sized-leaf made =
       answer-make H.Stop (headOf (length s)) m g value (make made (sized rest s))
       ∙ (answer-make H.Stop endOf m g made (sized rest s) ∙ (sized-is H.Stop m g s _ rest (λ a e h. H.Leaf e h)

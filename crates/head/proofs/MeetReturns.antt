@@ -42,10 +42,15 @@ metFrom m s (F.Read k a b h) = metBy k a b (headAt k m h (between b (length s) s
 -- ---- and that is what the definition meets
 
 pub meet-by : (f : Form) (m : Modes) (g : Faults) (s n : List ℕ) (k : Kind) (fs : List Flaw) (r : List ℕ) → front f s ≡ got (n, k) fs r
-    → meetAt f m g s ≡ answerOf M.Stop (λ d v q. metOf k (length s - length r - length n) (length s - length r) d v (length s - length q)) m (noted m g fs) (head k r)
+    → meetAt f m g s
+    ≡ answerOf M.Stop (λ d v q. metOf k (length s - length r - length n) (length s - length r) d v (length s - length q)) m (noted m g fs) (head k r)
 unfolding meetAt
 meet-by f m g s n k fs r e =
-    rw (e, answer-flaws M.Stop (metIn (length s)) m g fs (make (λ d. ((n, k), (r, d))) (head k r)), answer-make M.Stop (metIn (length s)) m (noted m g fs) (λ d. ((n, k), (r, d))) (head k r))
+    rw (
+      e,
+      answer-flaws M.Stop (metIn (length s)) m g fs (make (λ d. ((n, k), (r, d))) (head k r)),
+      answer-make M.Stop (metIn (length s)) m (noted m g fs) (λ d. ((n, k), (r, d))) (head k r),
+    )
 
 -- a head behind b bytes of n
 head-behind : (k : Kind) (a b n : ℕ) (m : Modes) (h : Faults) (r : List ℕ) → b + length r ≡ n

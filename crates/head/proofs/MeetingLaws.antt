@@ -42,7 +42,8 @@ bind-bind (got a fs q) g h = go fs (g a q)
     go (f ∷ fs) (fault k) = refl
     go (f ∷ fs) (got b gs r) = sym (with-with (f ∷ fs) gs (h b r))
 
-pub bind-same : {A B : Type 0} (o : Out A) (g h : A → List ℕ → Out B) → ((a : A) (fs : List Flaw) (r : List ℕ) → o ≡ got a fs r → g a r ≡ h a r) → bind o g ≡ bind o h
+pub bind-same : {A B : Type 0} (o : Out A) (g h : A → List ℕ → Out B)
+    → ((a : A) (fs : List Flaw) (r : List ℕ) → o ≡ got a fs r → g a r ≡ h a r) → bind o g ≡ bind o h
 bind-same (fault k) g h e = refl
 bind-same (got a fs r) g h e = ap (withFlaws fs) (e a fs r refl)
 

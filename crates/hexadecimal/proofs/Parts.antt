@@ -1,5 +1,5 @@
--- Typing part by part gives what `bytesTyped` gives of the whole text: parts may be cut anywhere; the bytes, if the list has room for them, stand at its front; and
--- a mistyped text is told at its place.
+-- Typing part by part gives what `bytesTyped` gives of the whole text: parts may be cut anywhere; the bytes, if the list has room for them, stand at its
+-- front; and a mistyped text is told at its place.
 use Prim.Native.Nat.{ℕ, zero, suc, _+_, _-_, _*_, _%_, _^_, _≤_, _<_}
 use native.Mathlib.Omega.{arith}
 use mathlib.Core.Path.{_≡_, refl, sym, ap, _∙_, subst}
@@ -59,7 +59,8 @@ step-first : (c d n : ℕ) (l : List ℕ) → character c ≡ digit d → fedOne
 unfolding told
 step-first c d n l e = rw e
 
-step-second : (c d n h : ℕ) (l : List ℕ) → character c ≡ digit d → h < 16 → n < 2 ^ 64 - 1 → fedOne c (state n (some h)) l ≡ afterwards (state (suc n) none) (put l n (h * 16 + d))
+step-second : (c d n h : ℕ) (l : List ℕ) → character c ≡ digit d → h < 16 → n < 2 ^ 64 - 1
+    → fedOne c (state n (some h)) l ≡ afterwards (state (suc n) none) (put l n (h * 16 + d))
 unfolding told
 step-second c d n h l e i k =
     let a : h % 16 ≡ h = omega arith in
@@ -85,7 +86,8 @@ stays [] t l = refl
 stays (c ∷ s) t l = stays s t l
 
 -- typed
-on-typed : (s : List ℕ) (n : ℕ) (o : Option ℕ) (l bs : List ℕ) → n + length s < 2 ^ 64 → Small o → typeFrom s n o ≡ typed bs → fed s (state n o) l ≡ afterwards (state (n + length bs) none) (puts l n bs)
+on-typed : (s : List ℕ) (n : ℕ) (o : Option ℕ) (l bs : List ℕ) → n + length s < 2 ^ 64 → Small o → typeFrom s n o ≡ typed bs
+    → fed s (state n o) l ≡ afterwards (state (n + length bs) none) (puts l n bs)
 on-typed [] n none l bs h i e = let z : bs ≡ [] = cc in let m : n ≡ n + 0 = omega arith in rw (z, ← m)
 on-typed [] n (some x) l bs h i e = clash cc
 on-typed (c ∷ s) n o l bs h i e = at (λ m q k vs. on-typed s m q k vs) (character c) refl o i e
@@ -95,16 +97,19 @@ on-typed (c ∷ s) n o l bs h i e = at (λ m q k vs. on-typed s m q k vs) (chara
 
     -- a byte, and the rest
     byte : (d x : ℕ) → character c ≡ digit d → x < 16
-        → ((m : ℕ) (q : Option ℕ) (k vs : List ℕ) → m + length s < 2 ^ 64 → Small q → typeFrom s m q ≡ typed vs → fed s (state m q) k ≡ afterwards (state (m + length vs) none) (puts k m vs))
+        → ((m : ℕ) (q : Option ℕ) (k vs : List ℕ) → m + length s < 2 ^ 64 → Small q → typeFrom s m q ≡ typed vs
+        → fed s (state m q) k ≡ afterwards (state (m + length vs) none) (puts k m vs))
         → (r : Typed) → typeFrom s (suc n) none ≡ r → first (x * 16 + d) r ≡ typed bs → Goal (some x) bs
     byte d x j i ih (typed vs) w e =
         let z : (x * 16 + d) ∷ vs ≡ bs = cc in
         let m : suc n + length vs ≡ n + suc (length vs) = omega arith in
-        let y : Goal (some x) ((x * 16 + d) ∷ vs) = rw (step-second c d n x l j i (omega arith), ← m) (ih (suc n) none (put l n (x * 16 + d)) vs (omega arith) tt w) in
+        let y : Goal (some x) ((x * 16 + d) ∷ vs) =
+        rw (step-second c d n x l j i (omega arith), ← m) (ih (suc n) none (put l n (x * 16 + d)) vs (omega arith) tt w) in
         subst (Goal (some x)) z y
     byte d x j i ih (mistyped p) w e = clash cc
 
-    at : ((m : ℕ) (q : Option ℕ) (k vs : List ℕ) → m + length s < 2 ^ 64 → Small q → typeFrom s m q ≡ typed vs → fed s (state m q) k ≡ afterwards (state (m + length vs) none) (puts k m vs))
+    at : ((m : ℕ) (q : Option ℕ) (k vs : List ℕ) → m + length s < 2 ^ 64 → Small q → typeFrom s m q ≡ typed vs
+        → fed s (state m q) k ≡ afterwards (state (m + length vs) none) (puts k m vs))
         → (x : Character) → character c ≡ x → (o : Option ℕ) → Small o → typeOne n o x (λ m q. typeFrom s m q) ≡ typed bs → Goal o bs
     at ih (digit d) j none i e = rw (step-first c d n l j) (ih n (some d) l bs (omega arith) (small-digit c d j) e)
     at ih (digit d) j (some x) i e = byte d x j i ih (typeFrom s (suc n) none) refl e
@@ -118,22 +123,26 @@ record Told (p : ℕ) (t : Typing) : Type 0 where
   place : t .formed ≡ p
   open-or-wrong : (t .begun || t .wrong) ≡ true
 
-on-mistyped : (s : List ℕ) (n : ℕ) (o : Option ℕ) (l : List ℕ) (p : ℕ) → n + length s < 2 ^ 64 → Small o → typeFrom s n o ≡ mistyped p → Told p (fed s (state n o) l .typing)
+on-mistyped : (s : List ℕ) (n : ℕ) (o : Option ℕ) (l : List ℕ) (p : ℕ) → n + length s < 2 ^ 64 → Small o → typeFrom s n o ≡ mistyped p
+    → Told p (fed s (state n o) l .typing)
 on-mistyped [] n none l p h i e = clash cc
 on-mistyped [] n (some x) l p h i e = record { place = cc; open-or-wrong = refl }
 on-mistyped (c ∷ s) n o l p h i e = at (λ m q k. on-mistyped s m q k p) (character c) refl o i e
   where
-    byte : (d x : ℕ) → character c ≡ digit d → x < 16 → ((m : ℕ) (q : Option ℕ) (k : List ℕ) → m + length s < 2 ^ 64 → Small q → typeFrom s m q ≡ mistyped p → Told p (fed s (state m q) k .typing))
+    byte : (d x : ℕ) → character c ≡ digit d → x < 16
+        → ((m : ℕ) (q : Option ℕ) (k : List ℕ) → m + length s < 2 ^ 64 → Small q → typeFrom s m q ≡ mistyped p → Told p (fed s (state m q) k .typing))
         → (r : Typed) → typeFrom s (suc n) none ≡ r → first (x * 16 + d) r ≡ mistyped p → Told p (onward (fed s) (fedOne c (state n (some x)) l) .typing)
     byte d x j i ih (typed vs) w e = clash cc
-    byte d x j i ih (mistyped q) w e = rw (step-second c d n x l j i (omega arith)) (ih (suc n) none (put l n (x * 16 + d)) (omega arith) tt (let z : q ≡ p = cc in w ∙ ap mistyped z))
+    byte d x j i ih (mistyped q) w e =
+        rw (step-second c d n x l j i (omega arith)) (ih (suc n) none (put l n (x * 16 + d)) (omega arith) tt (let z : q ≡ p = cc in w ∙ ap mistyped z))
 
     stopped : (o : Option ℕ) → character c ≡ another → n ≡ p → Told p (onward (fed s) (fedOne c (state n o) l) .typing)
     stopped none j z = rw (step-another c n none l j, stays s (state n none) l) (record { place = z; open-or-wrong = refl })
     stopped (some x) j z = rw (step-another c n (some x) l j, stays s (state n (some x)) l) (record { place = z; open-or-wrong = refl })
 
     at : ((m : ℕ) (q : Option ℕ) (k : List ℕ) → m + length s < 2 ^ 64 → Small q → typeFrom s m q ≡ mistyped p → Told p (fed s (state m q) k .typing))
-        → (x : Character) → character c ≡ x → (o : Option ℕ) → Small o → typeOne n o x (λ m q. typeFrom s m q) ≡ mistyped p → Told p (onward (fed s) (fedOne c (state n o) l) .typing)
+        → (x : Character) → character c ≡ x → (o : Option ℕ) → Small o → typeOne n o x (λ m q. typeFrom s m q) ≡ mistyped p
+        → Told p (onward (fed s) (fedOne c (state n o) l) .typing)
     at ih (digit d) j none i e = rw (step-first c d n l j) (ih n (some d) l (omega arith) (small-digit c d j) e)
     at ih (digit d) j (some x) i e = byte d x j i ih (typeFrom s (suc n) none) refl e
     at ih lineFeed j none i e = rw (step-feed c n none l j) (ih n none l (omega arith) i e)
@@ -151,12 +160,15 @@ puts-sets (b ∷ bs) l n h =
 
 -- a text that is well typed: its bytes stand at the front of a list that has room for them, nothing else is touched, and no digit is at hand
 pub whole-typed : (s l bs : List ℕ) → length s < 2 ^ 64 → bytesTyped s ≡ typed bs
-    → (fed s start l .typing ≡ record { formed = length bs; begun = false; digit = 0; wrong = false }) × (length bs ≤ length l → fed s start l .list ≡ bs ++ drop (length bs) l)
+    → (fed s start l .typing ≡ record { formed = length bs; begun = false; digit = 0; wrong = false })
+    × (length bs ≤ length l → fed s start l .list ≡ bs ++ drop (length bs) l)
 unfolding bytesTyped
 whole-typed s l bs h e =
     let i = on-typed s 0 none l bs (omega arith) tt e in
-    let n : 0 + length bs ≡ length bs = omega arith in
-    (ap (λ f. f .typing) i ∙ ap (λ m. state m none) n, λ k. ap (λ f. f .list) i ∙ puts-sets bs l 0 (omega arith) ∙ sets-eq bs l 0 (omega arith) ∙ ap (λ m. bs ++ drop m l) n)
+    let n : 0 + length bs ≡ length bs = omega arith in (
+      ap (λ f. f .typing) i ∙ ap (λ m. state m none) n,
+      λ k. ap (λ f. f .list) i ∙ puts-sets bs l 0 (omega arith) ∙ sets-eq bs l 0 (omega arith) ∙ ap (λ m. bs ++ drop m l) n,
+    )
 
 -- a text that is mistyped: the place is the number of bytes formed before it; a digit is at hand at the end, or another character was met
 pub whole-mistyped : (s l : List ℕ) (p : ℕ) → length s < 2 ^ 64 → bytesTyped s ≡ mistyped p

@@ -39,7 +39,8 @@ module _ (c : ℕ) where
 
   pub past-letters : 0x66 < c → C.Another ≡ told c
   unfolding told
-  past-letters h = rw (le-leb 0x30 c (omega arith), lt-leb c 0x39 (omega arith), le-leb 0x61 c (omega arith), lt-leb c 0x66 h, ne-eqb c 0x0a (λ e. omega arith))
+  past-letters h =
+      rw (le-leb 0x30 c (omega arith), lt-leb c 0x39 (omega arith), le-leb 0x61 c (omega arith), lt-leb c 0x66 h, ne-eqb c 0x0a (λ e. omega arith))
 
 -- ---- one more
 
@@ -92,7 +93,8 @@ pub second-is : (d : ℕ) (t : Typing) (l k : List ℕ) (n : ℕ) → k ≡ put 
     → afterwards (record { formed = n; begun = false; digit = 0; wrong = false }) k ≡ fedSecond d t l
 second-is d t l k n e f = rw (e, f)
 
-pub fed-on : (s : List ℕ) (i : ℕ) (t r : Typing) (l k : List ℕ) (o : Fed) → i < length s → o ≡ fed (drop i s) t l → afterwards r k ≡ fedOne (getD s i 0) t l → o ≡ fed (drop (i + 1) s) r k
+pub fed-on : (s : List ℕ) (i : ℕ) (t r : Typing) (l k : List ℕ) (o : Fed) → i < length s → o ≡ fed (drop i s) t l → afterwards r k ≡ fedOne (getD s i 0) t l
+    → o ≡ fed (drop (i + 1) s) r k
 fed-on s i t r l k o h e f =
     let z : drop i s ≡ getD s i 0 ∷ drop (suc i) s = drop-cons s i 0 h in
     let w : fed (drop i s) t l ≡ fed (drop (suc i) s) r k = ap (λ a. fed a t l) z ∙ ap (λ a. fed (drop (suc i) s) (a .typing) (a .list)) (sym f) in

@@ -40,7 +40,8 @@ put l n b = cond (ltb n (length l)) (set l n b) l
 
 -- a second digit makes a byte
 abbrev pub fedSecond : ℕ → Typing → List ℕ → Fed
-fedSecond d t l = afterwards (record { formed = oneMore (t .formed); begun = false; digit = 0; wrong = false }) (put l (t .formed) (t .digit % 16 * 16 + d % 16))
+fedSecond d t l =
+    afterwards (record { formed = oneMore (t .formed); begun = false; digit = 0; wrong = false }) (put l (t .formed) (t .digit % 16 * 16 + d % 16))
 
 -- a first digit is kept; a line feed means nothing; another character is wrong
 abbrev pub fedBy : Bool → Character → Typing → List ℕ → Fed

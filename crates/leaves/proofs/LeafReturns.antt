@@ -44,7 +44,8 @@ module _ (m : Modes) (g : Faults) (t : List ℕ) (x : VarUInt) (e : x ≡ varUIn
   pub negative-cut : x ≡ N.Cut → H.Stop Early ≡ negativeOf m g (varUInt t)
   negative-cut z = rw (← e, z)
 
-  pub negative-whole : (v n : ℕ) (u : Bool) (h f : Faults) → x ≡ N.Whole v n u → h ≡ noted m g (flawIf (not u) Long) → f ≡ noted m h (flawIf (not (ltb v (2 ^ 63))) Low) → H.Leaf n f ≡ negativeOf m g (varUInt t)
+  pub negative-whole : (v n : ℕ) (u : Bool) (h f : Faults) → x ≡ N.Whole v n u → h ≡ noted m g (flawIf (not u) Long)
+      → f ≡ noted m h (flawIf (not (ltb v (2 ^ 63))) Low) → H.Leaf n f ≡ negativeOf m g (varUInt t)
   negative-whole v n u h f z w y = rw (← e, z, y, w)
 
   pub id-cut : (b : ℕ) → x ≡ N.Cut → H.Stop Early ≡ idOf m g b (varUInt t)
@@ -57,14 +58,16 @@ module _ (m : Modes) (g : Faults) (s : List ℕ) (x : Fixed64) (e : x ≡ fixed6
   pub double-cut : x ≡ X.Cut → H.Stop Early ≡ doubleAt m g s
   double-cut z = at (ltb (length s) 8) refl (sym z ∙ e)
     where
-      at : (c : Bool) → ltb (length s) 8 ≡ c → X.Cut ≡ cond c X.Cut (X.Whole (fromBytes (take 8 s))) → H.Stop Early ≡ cond (ltb (length s) 8) (H.Stop Early) (H.Leaf 8 (noted m g (flawIf (holds (fromBytes (take 8 s))) Wide)))
+      at : (c : Bool) → ltb (length s) 8 ≡ c → X.Cut ≡ cond c X.Cut (X.Whole (fromBytes (take 8 s)))
+          → H.Stop Early ≡ cond (ltb (length s) 8) (H.Stop Early) (H.Leaf 8 (noted m g (flawIf (holds (fromBytes (take 8 s))) Wide)))
       at true t y = rw t
       at false t y = clash cc
 
   pub double-whole : (b : ℕ) (u : Bool) (h : Faults) → x ≡ X.Whole b → u ≡ holds b → h ≡ noted m g (flawIf u Wide) → H.Leaf 8 h ≡ doubleAt m g s
   double-whole b u h z w y = at (ltb (length s) 8) refl (sym z ∙ e)
     where
-      at : (c : Bool) → ltb (length s) 8 ≡ c → X.Whole b ≡ cond c X.Cut (X.Whole (fromBytes (take 8 s))) → H.Leaf 8 h ≡ cond (ltb (length s) 8) (H.Stop Early) (H.Leaf 8 (noted m g (flawIf (holds (fromBytes (take 8 s))) Wide)))
+      at : (c : Bool) → ltb (length s) 8 ≡ c → X.Whole b ≡ cond c X.Cut (X.Whole (fromBytes (take 8 s)))
+          → H.Leaf 8 h ≡ cond (ltb (length s) 8) (H.Stop Early) (H.Leaf 8 (noted m g (flawIf (holds (fromBytes (take 8 s))) Wide)))
       at true t y = clash cc
       at false t q = let p : b ≡ fromBytes (take 8 s) = cc in rw (t, y, w, p)
 

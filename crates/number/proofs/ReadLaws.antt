@@ -42,7 +42,13 @@ rest-length (b ∷ s) h = refl
 pub read-one : (s : List ℕ) (v : ℕ) → 0 < length s → getD s 0 0 < 128 → v ≡ getD s 0 0 → Whole v 1 true ≡ varUInt s
 read-one s v h l e =
     let z : getD s 0 0 - 0 ≡ getD s 0 0 = omega arith in
-    rw (split-first s 0 h (following-at 0 (getD s 0 0) (omega arith) (omega arith) l), answer-whole 0 (getD s 0 0) (drop 1 s) (omega arith), z, e, le-leb 0 (getD s 0 0) (omega arith))
+    rw (
+      split-first s 0 h (following-at 0 (getD s 0 0) (omega arith) (omega arith) l),
+      answer-whole 0 (getD s 0 0) (drop 1 s) (omega arith),
+      z,
+      e,
+      le-leb 0 (getD s 0 0) (omega arith),
+    )
 
 pub read-cut : (s : List ℕ) (n : ℕ) → 0 < length s → n ≡ following (getD s 0 0) → length s ≤ n → Cut ≡ varUInt s
 read-cut s n h e l = rw (split-first s n h e, lt-ltb (length (drop 1 s)) n (omega (arith, rest-length s h))) refl
@@ -56,7 +62,8 @@ value-fits s n l f w e h a b =
     let g : Following n (getD s 0 0) = following-known s n w e in
     let i : n + 1 - 1 ≡ n = omega arith in
     let q : valueOf n (getD s 0 0) (drop 1 s) < limit n =
-    below n (getD s 0 0) (drop 1 s) (valueOf n (getD s 0 0) (drop 1 s)) (suc n) (leb (bound n) (valueOf n (getD s 0 0) (drop 1 s))) g (bytes-of (drop 1 s) (λ i. rw (getD-drop 1 s i 0) (w (1 + i))))
+    below n (getD s 0 0) (drop 1 s) (valueOf n (getD s 0 0) (drop 1 s)) (suc n) (leb (bound n) (valueOf n (getD s 0 0) (drop 1 s))) g
+    (bytes-of (drop 1 s) (λ i. rw (getD-drop 1 s i 0) (w (1 + i))))
     (record { room = omega (arith, rest-length s (omega arith)); value = refl; length-is = refl; minimal = refl }) in
     rw (b, a, i) (omega (arith, limit-whole n (g .most)))
 

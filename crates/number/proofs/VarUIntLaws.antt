@@ -217,8 +217,11 @@ var-inv (b ∷ s) v n w h = go (following b) (following-is b (w .0)) h
         let i = made k b s v n true h in
         let l : v < limit k = below k b s v n true f (w .1) i in
         let m : bound k ≤ v = omega (arith, leb-true (bound k) (valueOf k b s) (i .minimal), i .value) in
-        let e : encoded v ≡ b ∷ take k s = encoded-at k v (needed-at k v (f .most) m l) ∙ form-is k b s v n true f (w .1) i in
-        (omega (arith, limit-whole k (f .most)), rw (e, length-take-le k s (i .room)) (i .length-is), rw (e, i .length-is) (ap (λ t. b ∷ t) (sym (take-append-drop k s))))
+        let e : encoded v ≡ b ∷ take k s = encoded-at k v (needed-at k v (f .most) m l) ∙ form-is k b s v n true f (w .1) i in (
+          omega (arith, limit-whole k (f .most)),
+          rw (e, length-take-le k s (i .room)) (i .length-is),
+          rw (e, i .length-is) (ap (λ t. b ∷ t) (sym (take-append-drop k s))),
+        )
 
 -- whatever is read is the form of its value with some number of bytes behind the first
 pub var-form : (s : List ℕ) (v n : ℕ) (m : Bool) → Bytes s → varUInt s ≡ Whole v n m → (k : ℕ) × (k ≤ 8) × (v < limit k) × (take n s ≡ form k v)

@@ -61,19 +61,23 @@ read-takes (suc d) f full s x fs r h =
 pub fields-enough : (d n : ℕ) (s : List ℕ) → length s ≤ n → fill (read d Fo.Field) n s ≡ fill (read d Fo.Field) (length s) s
 fields-enough d = fill-enough (read d Fo.Field) (read-takes d Fo.Field tt)
 
-pub shared-fields-enough : (d : ℕ) (k : Kind) (n : ℕ) (s : List ℕ) → length s ≤ n → fill (read d (Fo.SharedField k)) n s ≡ fill (read d (Fo.SharedField k)) (length s) s
+pub shared-fields-enough : (d : ℕ) (k : Kind) (n : ℕ) (s : List ℕ) → length s ≤ n
+    → fill (read d (Fo.SharedField k)) n s ≡ fill (read d (Fo.SharedField k)) (length s) s
 shared-fields-enough d k = fill-enough (read d (Fo.SharedField k)) (read-takes d (Fo.SharedField k) tt)
 
 -- ---- steps: what is made of them, `go`, goes on behind a field only
 
-module _ {X : Type 0} (s : List ℕ) (c : Place) (at : (Place → X) → Step → X) (go : ℕ → After → X) (turn : (n : ℕ) (l : After) → go (suc n) l ≡ at (λ q. go n (Last q)) (step s c l))
+module _ {X : Type 0} (s : List ℕ) (c : Place) (at : (Place → X) → Step → X) (go : ℕ → After → X)
+    (turn : (n : ℕ) (l : After) → go (suc n) l ≡ at (λ q. go n (Last q)) (step s c l))
     (only : (f g : Place → X) (x : Step) → ((q : Place) (n : ℕ) → x ≡ Field q n → f q ≡ g q) → at f x ≡ at g x) where
   steps-more : (m n : ℕ) (l : After) → behind l ≤ c .end → c .end < m + behind l → c .end < n + behind l → go n l ≡ go m l
   steps-more zero n l h k o = absurd (omega arith)
   steps-more (suc m) zero l h k o = absurd (omega arith)
   steps-more (suc m) (suc n) l h k o =
       turn n l
-      ∙ only (λ q. go n (Last q)) (λ q. go m (Last q)) (step s c l) (λ q a e. let i = step-onward s c l q a e in steps-more m n (Last q) (i .within) (omega (arith, i .further)) (omega (arith, i .further)))
+      ∙ only (λ q. go n (Last q)) (λ q. go m (Last q)) (step s c l) (λ q a e.
+      let i = step-onward s c l q a e in
+      steps-more m n (Last q) (i .within) (omega (arith, i .further)) (omega (arith, i .further)))
       ∙ sym (turn m l)
 
   steps-enough : (n : ℕ) → c .end < n → go n Start ≡ go (suc (c .end)) Start
@@ -83,7 +87,8 @@ module _ (s : List ℕ) (c : Place) where
   pub look-enough : (name : List ℕ) (n : ℕ) → c .end < n → lookFrom n s c name Start ≡ lookFrom (suc (c .end)) s c name Start
   look-enough name = steps-enough s c (lookAt s name) (λ n l. lookFrom n s c name l) (λ n l. refl) only
     where
-      by : (f g : Place → Found) (p : Place) (b : Bool) → f p ≡ g p → _≡_ {A = Found} (elim b [ true ↦ F.At p | false ↦ f p ]) (elim b [ true ↦ F.At p | false ↦ g p ])
+      by : (f g : Place → Found) (p : Place) (b : Bool) → f p ≡ g p
+          → _≡_ {A = Found} (elim b [ true ↦ F.At p | false ↦ f p ]) (elim b [ true ↦ F.At p | false ↦ g p ])
       by f g p true e = refl
       by f g p false e = e
 

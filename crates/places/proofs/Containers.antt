@@ -7,7 +7,9 @@ use mathlib.Core.List.{List, [], _∷_, _++_, append-assoc}
 use lib.ListN.{length, length-append}
 use Rattle.number.specs.BigEndian.{All}
 use Rattle.format.specs.declared.Kind.{Kind}
-use Rattle.format.specs.declared.Kind.the-variants.{Null, Object, UniformObject, Array, UniformArray, Binary, String, IntegerPositive, IntegerNegative, Float32, Float64, False, True, ObjectAttachment, BinaryAttachment, Hash, Uuid, DateTime, TimeSpan, ObjectId, CustomById, CustomByName}
+use Rattle.format.specs.declared.Kind.the-variants.{Null, Object, UniformObject, Array, UniformArray, Binary, String, IntegerPositive, IntegerNegative}
+use Rattle.format.specs.declared.Kind.the-variants.{Float32, Float64, False, True, ObjectAttachment, BinaryAttachment, Hash, Uuid, DateTime, TimeSpan}
+use Rattle.format.specs.declared.Kind.the-variants.{ObjectId, CustomById, CustomByName}
 use Rattle.format.specs.declared.Known.{Known}
 use Rattle.format.specs.declared.Known.the-variants.{Unknown, Is}
 use Rattle.format.specs.declared.Mark.the-variants.{SharedByFields, SharedByItems}
@@ -18,7 +20,8 @@ use Rattle.format.specs.Kinds.{typeByte, kindAt, isBare}
 use Rattle.format.specs.declared.Flaw.{Flaw}
 use Rattle.format.specs.Parse.{Out, fault, got, bind, make, readVarUInt}
 use Rattle.format.specs.Tree.{Leaf}
-use Rattle.format.specs.Payload.{leaf, payload, Head, value, fieldsIn, itemsIn, sharedFieldsOf, readSharedFields, sharedItemsOf, readSharedItems, readFields, readItems, head}
+use Rattle.format.specs.Payload.{leaf, payload, Head, value, fieldsIn, itemsIn, sharedFieldsOf, readSharedFields, sharedItemsOf, readSharedItems, readFields}
+use Rattle.format.specs.Payload.{readItems, head}
 use Rattle.places.specs.Show.{Opens, Before}
 use Rattle.format.proofs.Lists.{append-nil}
 use Rattle.format.proofs.Back.{never}
@@ -40,7 +43,8 @@ Contained k s (value v) r = (p : List ℕ → Out Leaf) × (payload k ≡ leaf p
 Contained k s (fieldsIn f b) r = ((k ≡ Object) ⊎ (k ≡ UniformObject)) × Holds k s f b r (λ ks. Unit {0})
 Contained k s (itemsIn f n b) r = ((k ≡ Array) ⊎ (k ≡ UniformArray)) × Holds k s f b r (λ ks. length ks ≡ n) × Unnamed f
 
-leaf-contained : (k : Kind) (p : List ℕ → Out Leaf) (s : List ℕ) {h : Head} {fs : List Flaw} {r : List ℕ} → payload k ≡ leaf p → head k s ≡ got h fs r → Contained k s h r
+leaf-contained : (k : Kind) (p : List ℕ → Out Leaf) (s : List ℕ) {h : Head} {fs : List Flaw} {r : List ℕ} → payload k ≡ leaf p
+    → head k s ≡ got h fs r → Contained k s h r
 unfolding head
 leaf-contained k p s {h} {fs} {r} i e =
     let j : make value (p s) ≡ got h fs r = rw i at e in
@@ -67,7 +71,8 @@ shared-items-is : (n : ℕ) (b : List ℕ) {h : Head} {gs : List Flaw} → readS
 shared-items-is n [] e = never e
 shared-items-is n (c ∷ s) {h} {gs} e = go n (kindAt SharedByItems c) refl e
   where
-    by : (n : ℕ) (k : Kind) (x : Bool) → kindAt SharedByItems c ≡ Is k → cond x (fault BadUniform) (got (itemsIn (SharedItem k) (suc n) s) [] []) ≡ got h gs [] → SharedItems (suc n) (c ∷ s) h
+    by : (n : ℕ) (k : Kind) (x : Bool) → kindAt SharedByItems c ≡ Is k → cond x (fault BadUniform) (got (itemsIn (SharedItem k) (suc n) s) [] []) ≡ got h gs []
+        → SharedItems (suc n) (c ∷ s) h
     by n k true t e = never e
     by n k false t e = (k, s, cc, ap (λ y. y ∷ s) (kind-inv SharedByItems c k t))
 
@@ -127,7 +132,8 @@ module _ (s : List ℕ) {h : Head} {fs : List Flaw} {r : List ℕ} where
         inr refl,
         record {
           opening = w ++ (x .0 ++ (t ∷ []));
-          splits = rw (append-assoc w (x .0 ++ (t ∷ [])) (z .1 ++ r), append-assoc (x .0) (t ∷ []) (z .1 ++ r), ← append-assoc (x .0) (t ∷ z .1) r) (rw y at es);
+          splits =
+              rw (append-assoc w (x .0 ++ (t ∷ [])) (z .1 ++ r), append-assoc (x .0) (t ∷ []) (z .1 ++ r), ← append-assoc (x .0) (t ∷ z .1) r) (rw y at es);
           opens = λ ks l m. (w, x .0, z .0, refl, rw (← length-append (x .0) (t ∷ z .1)) (rw y at f), (ns, rw (l, ← append-nil (x .0)) (x .2 [])), m);
           stands = λ j n w t. t;
         },

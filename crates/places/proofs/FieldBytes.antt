@@ -17,7 +17,9 @@ use Rattle.number.specs.declared.VarUInt.the-variants.{Cut, Whole}
 use Rattle.text.specs.Utf8.{isText}
 use Rattle.float.specs.Rule.{holds}
 use Rattle.format.specs.declared.Kind.{Kind}
-use Rattle.format.specs.declared.Kind.the-variants.{Null, Object, UniformObject, Array, UniformArray, Binary, String, IntegerPositive, IntegerNegative, Float32, Float64, False, True, ObjectAttachment, BinaryAttachment, Hash, Uuid, DateTime, TimeSpan, ObjectId, CustomById, CustomByName}
+use Rattle.format.specs.declared.Kind.the-variants.{Null, Object, UniformObject, Array, UniformArray, Binary, String, IntegerPositive, IntegerNegative}
+use Rattle.format.specs.declared.Kind.the-variants.{Float32, Float64, False, True, ObjectAttachment, BinaryAttachment, Hash, Uuid, DateTime, TimeSpan}
+use Rattle.format.specs.declared.Kind.the-variants.{ObjectId, CustomById, CustomByName}
 use Rattle.format.specs.declared.Known.{Known}
 use Rattle.format.specs.declared.Known.the-variants.{Unknown, Is}
 use Rattle.format.specs.declared.Mark.{Mark}
@@ -31,7 +33,8 @@ use Rattle.format.specs.declared.Flaw.the-variants.{Long, Low, Wide, NotUtf8, B
 use Rattle.format.specs.Parse.{Out, fault, got, bind, raise, make, whole, number, readVarUInt, fixed, sized, rest}
 use Rattle.format.specs.Names.{isEmpty, readText, readName}
 use Rattle.format.specs.Tree.{Leaf, integer, float, binary, string, objectAttachment, binaryAttachment, hash, uuid, objectId, dateTime, timeSpan}
-use Rattle.format.specs.Payload.{kindFound, readType, front, float32, float64, readNegative, readFloat64, readCustomById, readCustomByName, payload, Head, value, readSharedFields, readSharedItems, readFields, readItems, head}
+use Rattle.format.specs.Payload.{kindFound, readType, front, float32, float64, readNegative, readFloat64, readCustomById, readCustomByName, payload, Head}
+use Rattle.format.specs.Payload.{value, readSharedFields, readSharedItems, readFields, readItems, head}
 use Rattle.places.specs.Places.{taken}
 use Rattle.places.specs.Show.{Reads}
 use Rattle.format.proofs.Lists.{append-nil}
@@ -53,12 +56,13 @@ number-taken s {v} {fs} {r} h = go (varUInt s) h
 
 -- the size w, the bytes b that it counts, and what follows
 pub sized-read : {A X : Type 0} (p : List ℕ → Out A) (s : List ℕ) {a : A} {fs : List Flaw} {r : List ℕ} → sized p s ≡ got a fs r
-    → ((w b : List ℕ) (gs : List Flaw) → p b ≡ got a gs [] → s ≡ w ++ (b ++ r) → Reads readVarUInt w (length b) → drop (taken (varUInt s)) s ≡ b ++ r → length (b ++ r) < length s → X) → X
+    → ((w b : List ℕ) (gs : List Flaw) → p b ≡ got a gs [] → s ≡ w ++ (b ++ r) → Reads readVarUInt w (length b) → drop (taken (varUInt s)) s ≡ b ++ r
+    → length (b ++ r) < length s → X) → X
 sized-read {A} {X} p s {a} {fs} {r} h c = bind-got (readVarUInt s) _ h λ n es q gs e k _. let w = local-number s n es q e in
     go n q gs (w .0) (w .1) (es, rw (append-nil (w .0)) at (w .2 [])) (number-taken s e) (number-takes s e) (ltb (length q) n) refl k
   where
-    go : (n : ℕ) (q : List ℕ) (gs : List Flaw) (w : List ℕ) → s ≡ w ++ q → Reads readVarUInt w n → drop (taken (varUInt s)) s ≡ q → length q < length s → (x : Bool) → ltb (length q) n ≡ x
-        → cond x (fault Early) (whole (p (take n q)) (drop n q)) ≡ got a gs r → X
+    go : (n : ℕ) (q : List ℕ) (gs : List Flaw) (w : List ℕ) → s ≡ w ++ q → Reads readVarUInt w n → drop (taken (varUInt s)) s ≡ q → length q < length s
+        → (x : Bool) → ltb (length q) n ≡ x → cond x (fault Early) (whole (p (take n q)) (drop n q)) ≡ got a gs r → X
     go n q gs w e f d l true t h = never h
     go n q gs w e f d l false t h = whole-got (p (take n q)) (drop n q) h λ i j.
         let m : length (take n q) ≡ n = length-take-le n q (ltb-false (length q) n t) in
@@ -78,7 +82,8 @@ Stood (SharedItem j) k n b = b ≡ []
 abbrev pub Fronting : Form → List ℕ → List ℕ × Kind → List ℕ → Type 0
 Fronting f s x q = (w : List ℕ) × (s ≡ w ++ (x .0 ++ q)) × Stood f (x .1) (x .0) w
 
-name-read : (s : List ℕ) {n : List ℕ} {fs : List Flaw} {q : List ℕ} → readName s ≡ got n fs q → (w : List ℕ) × (s ≡ w ++ (n ++ q)) × Reads readVarUInt w (length n)
+name-read : (s : List ℕ) {n : List ℕ} {fs : List Flaw} {q : List ℕ} → readName s ≡ got n fs q
+    → (w : List ℕ) × (s ≡ w ++ (n ++ q)) × Reads readVarUInt w (length n)
 name-read s {n} {fs} {q} h =
     bind-got (readText s) _ h λ b es r gs e i _. raise-got (isEmpty b) Blank (got b [] r) i λ _ j.
     bind-got (sized rest s) _ e λ c es′ r′ gs′ e′ i′ _. raise-got (not (isText c)) NotUtf8 (got c [] r′) i′ λ _ j′.
@@ -132,7 +137,8 @@ Unnamed Item = Unit {0}
 Unnamed (SharedField k) = ⊥
 Unnamed (SharedItem k) = Unit {0}
 
-plain-unnamed : (m : Mark) (s : List ℕ) {x : List ℕ × Kind} {fs : List Flaw} {q : List ℕ} → (bind (readType m s) λ k r. got ([], k) [] r) ≡ got x fs q → x .0 ≡ []
+plain-unnamed : (m : Mark) (s : List ℕ) {x : List ℕ × Kind} {fs : List Flaw} {q : List ℕ}
+    → (bind (readType m s) λ k r. got ([], k) [] r) ≡ got x fs q → x .0 ≡ []
 plain-unnamed m s {x} h = bind-got (readType m s) _ h λ k es r gs i j _. let z : x ≡ ([], k) = cc in ap (λ (y : List ℕ × Kind). y .0) z
 
 pub front-unnamed : (f : Form) (s : List ℕ) {x : List ℕ × Kind} {fs : List Flaw} {q : List ℕ} → Unnamed f → front f s ≡ got x fs q → x .0 ≡ []
@@ -186,7 +192,8 @@ Takes {A} p = (s : List ℕ) (a : A) (fs : List Flaw) (r : List ℕ) → p s ≡
 takes-make : {A B : Type 0} (f : A → B) (p : List ℕ → Out A) → Takes p → Takes (λ s. make f (p s))
 takes-make f p t s a fs r h = bind-got (p s) (λ a q. got (f a) [] q) h λ b es q gs e k _. let z : q ≡ r = cc in omega (arith, t s b es q e, ap length z)
 
-takes-raise : {A B : Type 0} (x : A → Bool) (w : Flaw) (f : A → B) (p : List ℕ → Out A) → Takes p → Takes (λ s. bind (p s) λ a q. raise (x a) w (got (f a) [] q))
+takes-raise : {A B : Type 0} (x : A → Bool) (w : Flaw) (f : A → B) (p : List ℕ → Out A) → Takes p
+    → Takes (λ s. bind (p s) λ a q. raise (x a) w (got (f a) [] q))
 takes-raise x w f p t s a fs r h = bind-got (p s) (λ a q. raise (x a) w (got (f a) [] q)) h λ b es q gs e k _. raise-got (x b) w (got (f b) [] q) k λ _ j.
     let z : q ≡ r = cc in omega (arith, t s b es q e, ap length z)
 
@@ -206,12 +213,16 @@ head-takes Object s b e = sized-takes readFields s e
 head-takes UniformObject s b e = sized-takes readSharedFields s e
 head-takes Array s b e = sized-takes readItems s e
 head-takes UniformArray s b e = sized-takes (λ b. bind (readVarUInt b) readSharedItems) s e
-head-takes Binary s {h} {fs} {r} b e = takes-make value (λ s. make binary (sized rest s)) (takes-make binary (sized rest) (λ s a fs r h. sized-takes rest s h)) s h fs r e
+head-takes Binary s {h} {fs} {r} b e =
+    takes-make value (λ s. make binary (sized rest s)) (takes-make binary (sized rest) (λ s a fs r h. sized-takes rest s h)) s h fs r e
 head-takes String s {h} {fs} {r} b e = takes-make value (λ s. make string (readText s)) (takes-make string readText (λ s a fs r h. text-takes s h)) s h fs r e
-head-takes IntegerPositive s {h} {fs} {r} b e = takes-make value (λ s. make (λ m. integer (pos m)) (readVarUInt s)) (takes-make (λ m. integer (pos m)) readVarUInt (λ s a fs r h. number-takes s h)) s h fs r e
-head-takes IntegerNegative s {h} {fs} {r} b e = takes-make value readNegative (takes-raise (λ m. not (ltb m (2 ^ 63))) Low (λ m. integer (negsuc m)) readVarUInt (λ s a fs r h. number-takes s h)) s h fs r e
+head-takes IntegerPositive s {h} {fs} {r} b e = takes-make value (λ s. make (λ m. integer (pos m)) (readVarUInt s))
+    (takes-make (λ m. integer (pos m)) readVarUInt (λ s a fs r h. number-takes s h)) s h fs r e
+head-takes IntegerNegative s {h} {fs} {r} b e = takes-make value readNegative
+    (takes-raise (λ m. not (ltb m (2 ^ 63))) Low (λ m. integer (negsuc m)) readVarUInt (λ s a fs r h. number-takes s h)) s h fs r e
 head-takes Float32 s {h} {fs} {r} b e = takes-bytes 4 (omega arith) (λ b. float (float32 (fromBytes b))) s h fs r e
-head-takes Float64 s {h} {fs} {r} b e = takes-make value readFloat64 (takes-raise (λ b. holds (fromBytes b)) Wide (λ b. float (float64 (fromBytes b))) (fixed 8) (takes-fixed 8 (omega arith))) s h fs r e
+head-takes Float64 s {h} {fs} {r} b e = takes-make value readFloat64
+    (takes-raise (λ b. holds (fromBytes b)) Wide (λ b. float (float64 (fromBytes b))) (fixed 8) (takes-fixed 8 (omega arith))) s h fs r e
 head-takes False s b e = bare-never b
 head-takes True s b e = bare-never b
 head-takes ObjectAttachment s {h} {fs} {r} b e = takes-bytes 20 (omega arith) objectAttachment s h fs r e
@@ -224,7 +235,8 @@ head-takes ObjectId s {h} {fs} {r} b e = takes-bytes 12 (omega arith) objectId s
 head-takes CustomById s {h} {fs} {r} b e = takes-make value (sized readCustomById) (λ s a fs r h. sized-takes readCustomById s h) s h fs r e
 head-takes CustomByName s {h} {fs} {r} b e = takes-make value (sized readCustomByName) (λ s a fs r h. sized-takes readCustomByName s h) s h fs r e
 
-pub field-takes : (f : Form) (s : List ℕ) {x : List ℕ × Kind} {fs gs : List Flaw} {q u : List ℕ} {h : Head} → Full f → front f s ≡ got x fs q → head (x .1) q ≡ got h gs u → length u < length s
+pub field-takes : (f : Form) (s : List ℕ) {x : List ℕ × Kind} {fs gs : List Flaw} {q u : List ℕ} {h : Head} → Full f → front f s ≡ got x fs q
+    → head (x .1) q ≡ got h gs u → length u < length s
 unfolding front
 field-takes Top s {x} {fs} {gs} {q} b e i = omega (arith, front-takes Top s e .1, local-le (head (x .1)) (local-head (x .1)) q i)
 field-takes Field s {x} {fs} {gs} {q} b e i = omega (arith, front-takes Field s e .1, local-le (head (x .1)) (local-head (x .1)) q i)

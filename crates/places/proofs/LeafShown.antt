@@ -15,7 +15,9 @@ use Rattle.text.specs.Utf8.{isText}
 use Rattle.float.specs.Rule.{holds}
 use Rattle.float.specs.Width.{isNan32, isNan64, widen}
 use Rattle.format.specs.declared.Kind.{Kind}
-use Rattle.format.specs.declared.Kind.the-variants.{Null, Object, UniformObject, Array, UniformArray, Binary, String, IntegerPositive, IntegerNegative, Float32, Float64, False, True, ObjectAttachment, BinaryAttachment, Hash, Uuid, DateTime, TimeSpan, ObjectId, CustomById, CustomByName}
+use Rattle.format.specs.declared.Kind.the-variants.{Null, Object, UniformObject, Array, UniformArray, Binary, String, IntegerPositive, IntegerNegative}
+use Rattle.format.specs.declared.Kind.the-variants.{Float32, Float64, False, True, ObjectAttachment, BinaryAttachment, Hash, Uuid, DateTime, TimeSpan}
+use Rattle.format.specs.declared.Kind.the-variants.{ObjectId, CustomById, CustomByName}
 use Rattle.format.specs.declared.Known.the-variants.{Is}
 use Rattle.places.specs.declared.Place.{Place}
 use Rattle.format.specs.Kinds.{hasSize}
@@ -23,7 +25,8 @@ use Rattle.format.specs.declared.Flaw.{Flaw}
 use Rattle.format.specs.declared.Flaw.the-variants.{Low, Wide, NotUtf8}
 use Rattle.format.specs.Parse.{Out, got, make, readVarUInt, fixed, sized, rest}
 use Rattle.format.specs.Names.{readText}
-use Rattle.format.specs.Tree.{number, nan32, nan64, Leaf, null, bool, integer, float, binary, string, objectAttachment, binaryAttachment, hash, uuid, objectId, dateTime, timeSpan, customById, customByName}
+use Rattle.format.specs.Tree.{number, nan32, nan64, Leaf, null, bool, integer, float, binary, string, objectAttachment, binaryAttachment, hash, uuid, objectId}
+use Rattle.format.specs.Tree.{dateTime, timeSpan, customById, customByName}
 use Rattle.format.specs.Payload.{float32, float64, readNegative, readFloat64, readCustomById, readCustomByName, payload, value, fieldsIn, itemsIn, head}
 use Rattle.places.specs.Places.{sizeLength, check}
 use Rattle.places.specs.Values.{Sort, whole, real, time, other, sortOf, doubleOf, signedOf, unsignedOf, ticksOf, double, signed, unsigned, ticks}
@@ -46,18 +49,21 @@ value-got {X} o {v} e c = bind-got o (λ u q. got (value u) [] q) e λ u es q gs
     let y : q ≡ [] = cc in
     c es (rw (z, y) at i)
 
-made-got : {A X : Type 0} (f : A → Leaf) (o : Out A) {v : Leaf} {fs : List Flaw} → make f o ≡ got v fs [] → ((a : A) (es : List Flaw) → o ≡ got a es [] → v ≡ f a → X) → X
+made-got : {A X : Type 0} (f : A → Leaf) (o : Out A) {v : Leaf} {fs : List Flaw} → make f o ≡ got v fs []
+    → ((a : A) (es : List Flaw) → o ≡ got a es [] → v ≡ f a → X) → X
 made-got f o {v} e c = bind-got o (λ a q. got (f a) [] q) e λ a es q gs i j _.
     let y : q ≡ [] = cc in
     c a es (rw y at i) (cc)
 
 -- n bytes, all of the payload
-bytes-viewed : {X : Type 0} (n : ℕ) (f : List ℕ → Leaf) (s : List ℕ) {v : Leaf} {fs : List Flaw} → make value (make f (fixed n s)) ≡ got (value v) fs [] → (length s ≡ n → v ≡ f s → X) → X
+bytes-viewed : {X : Type 0} (n : ℕ) (f : List ℕ → Leaf) (s : List ℕ) {v : Leaf} {fs : List Flaw} → make value (make f (fixed n s)) ≡ got (value v) fs []
+    → (length s ≡ n → v ≡ f s → X) → X
 bytes-viewed n f s e c = value-got (make f (fixed n s)) e λ es i. made-got f (fixed n s) i λ b gs j z. fixed-got n s j λ w l.
     let y : s ≡ b = rw (append-nil b) at w in
     c (rw (← y) at l) (rw (← y) at z)
 
-text-read : {X : Type 0} (s : List ℕ) {n : List ℕ} {fs : List Flaw} {q : List ℕ} → readText s ≡ got n fs q → ((w : List ℕ) → s ≡ w ++ (n ++ q) → Reads readVarUInt w (length n) → X) → X
+text-read : {X : Type 0} (s : List ℕ) {n : List ℕ} {fs : List Flaw} {q : List ℕ} → readText s ≡ got n fs q
+    → ((w : List ℕ) → s ≡ w ++ (n ++ q) → Reads readVarUInt w (length n) → X) → X
 text-read s {n} {fs} {q} h c =
     bind-got (sized rest s) _ h λ t es r gs e i _. raise-got (not (isText t)) NotUtf8 (got t [] r) i λ _ j.
     sized-read rest s e λ w v _ m es f _ _.
@@ -86,7 +92,8 @@ leaf-viewed Object s v fs e = let i = head-contained Object s e .1 in clash (cc)
 leaf-viewed UniformObject s v fs e = let i = head-contained UniformObject s e .1 in clash (cc)
 leaf-viewed Array s v fs e = let i = head-contained Array s e .1 in clash (cc)
 leaf-viewed UniformArray s v fs e = let i = head-contained UniformArray s e .1 in clash (cc)
-leaf-viewed Binary s v fs e = value-got (make binary (sized rest s)) e λ es i. made-got binary (sized rest s) i λ b gs j z. sized-read rest s j λ w t hs m _ _ d _.
+leaf-viewed Binary s v fs e =
+    value-got (make binary (sized rest s)) e λ es i. made-got binary (sized rest s) i λ b gs j z. sized-read rest s j λ w t hs m _ _ d _.
     let y : t ≡ b = cc in
     rw z (refl, d ∙ append-nil t ∙ y)
 leaf-viewed String s v fs e = value-got (make string (readText s)) e λ es i. made-got string (readText s) i λ b gs j z.
@@ -95,7 +102,8 @@ leaf-viewed String s v fs e = value-got (make string (readText s)) e λ es i. ma
     let y : t ≡ b = cc in
     let x : q ≡ [] = cc in
     rw z (refl, d ∙ (ap (λ r. t ++ r) x ∙ (append-nil t ∙ y)))
-leaf-viewed IntegerPositive s v fs e = value-got (make (λ m. integer (pos m)) (readVarUInt s)) e λ es i. made-got (λ m. integer (pos m)) (readVarUInt s) i λ m gs j z. rw z (refl, (gs, j))
+leaf-viewed IntegerPositive s v fs e =
+    value-got (make (λ m. integer (pos m)) (readVarUInt s)) e λ es i. made-got (λ m. integer (pos m)) (readVarUInt s) i λ m gs j z. rw z (refl, (gs, j))
 leaf-viewed IntegerNegative s v fs e = value-got (readNegative s) e λ es i.
     bind-got (readVarUInt s) _ i λ m es′ q gs′ i′ k _. raise-got (not (ltb m (2 ^ 63))) Low (got (integer (negsuc m)) [] q) k λ _ j.
     let z : v ≡ integer (negsuc m) = cc in
@@ -130,9 +138,20 @@ leaf-viewed CustomByName s v fs e = value-got (sized readCustomByName s) e λ es
 
 -- ---- values
 
-answered : (o : Sort) (s : List ℕ) (p : Place) → signed s p ≡ signedOf o → unsigned s p ≡ unsignedOf o → double s p ≡ doubleOf o → ticks s p ≡ ticksOf o → Answered o s p
-answered (whole (pos n)) s p e f g h = ((λ l. rw (e, lt-ltb n (2 ^ 63) l), λ l. rw (e, le-ltb n (2 ^ 63) l), f, λ l. rw (g, le-leb n (2 ^ 53) l), λ l. rw (g, lt-leb n (2 ^ 53) l)), h)
-answered (whole (negsuc m)) s p e f g h = ((λ l. rw (e, lt-ltb m (2 ^ 63) l), λ l. rw (e, le-ltb m (2 ^ 63) l), f, λ l. rw (g, le-leb (suc m) (2 ^ 53) l), λ l. rw (g, lt-leb (suc m) (2 ^ 53) (omega arith))), h)
+answered : (o : Sort) (s : List ℕ) (p : Place) → signed s p ≡ signedOf o → unsigned s p ≡ unsignedOf o → double s p ≡ doubleOf o
+    → ticks s p ≡ ticksOf o → Answered o s p
+answered (whole (pos n)) s p e f g h =
+    ((λ l. rw (e, lt-ltb n (2 ^ 63) l), λ l. rw (e, le-ltb n (2 ^ 63) l), f, λ l. rw (g, le-leb n (2 ^ 53) l), λ l. rw (g, lt-leb n (2 ^ 53) l)), h)
+answered (whole (negsuc m)) s p e f g h = (
+  (
+    λ l. rw (e, lt-ltb m (2 ^ 63) l),
+    λ l. rw (e, le-ltb m (2 ^ 63) l),
+    f,
+    λ l. rw (g, le-leb (suc m) (2 ^ 53) l),
+    λ l. rw (g, lt-leb (suc m) (2 ^ 53) (omega arith)),
+  ),
+  h,
+)
 answered (real x) s p e f g h = ((e, f), g, h)
 answered (time z) s p e f g h = ((e, f), g, h)
 answered other s p e f g h = ((e, f), g, h)

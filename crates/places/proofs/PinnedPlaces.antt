@@ -1,5 +1,5 @@
--- The order of a place's check, where steps begin and end, views and values (document 01, "Places, views and values"), by payloads and places, forged ones too, whose answers are
--- computed. The answers are 01's: exchanging two orders, two numbers or two ends in the definitions is refused here.
+-- The order of a place's check, where steps begin and end, views and values (document 01, "Places, views and values"), by payloads and places, forged ones
+-- too, whose answers are computed. The answers are 01's: exchanging two orders, two numbers or two ends in the definitions is refused here.
 use Prim.Native.Nat.{ℕ}
 use mathlib.Core.Path.{_≡_, refl}
 use mathlib.Core.List.{List, [], _∷_, _++_, map}
@@ -77,9 +77,11 @@ abbrev alice : List ℕ
 alice = of 20 0x0212c7046e616d6505416c696365c8036167651e
 
 pub steps-pinned : map (λ (x : List ℕ × (Place × After)). step (x .0) (x .1 .0) (x .1 .1))
-    ((alice, (at 2 1 20 1, Start)) ∷ (alice, (at 2 1 20 1, last 14)) ∷ (alice, (at 2 1 20 1, last 20)) ∷ (alice, (at 2 1 20 1, last 1)) ∷ (alice, (at 2 1 20 1, last 21))
+    ((alice, (at 2 1 20 1, Start)) ∷ (alice, (at 2 1 20 1, last 14)) ∷ (alice, (at 2 1 20 1, last 20)) ∷ (alice, (at 2 1 20 1, last 1))
+    ∷ (alice, (at 2 1 20 1, last 21))
     ∷ (alice, (at 2 1 20 1, last 15)) ∷ (alice, (at 2 1 20 32, Start)) ∷ (alice, (at 2 1 20 32, last 20)) ∷ (alice, (at 7 8 14 2, last 99))
-    ∷ (of 5 0x0403014141, (at 4 1 5 1, last 4)) ∷ (of 3 0x040100, (at 4 1 3 1, Start)) ∷ (of 3 0x040100, (at 4 1 3 1, last 9)) ∷ (of 4 0x02024105, (at 2 1 4 1, Start)) ∷ [])
+    ∷ (of 5 0x0403014141, (at 4 1 5 1, last 4)) ∷ (of 3 0x040100, (at 4 1 3 1, Start)) ∷ (of 3 0x040100, (at 4 1 3 1, last 9))
+    ∷ (of 4 0x02024105, (at 2 1 4 1, Start)) ∷ [])
     ≡ S.Field (at 7 8 14 2) 4 ∷ S.Field (at 8 19 20 2) 16 ∷ S.NoMore ∷ S.Fault Early ∷ S.Fault Early
     ∷ S.Fault Unknown ∷ S.Fault TooDeep ∷ S.NoMore ∷ S.WrongKind
     ∷ S.Field (at 1 5 5 2) 5 ∷ S.NoMore ∷ S.Fault Early ∷ S.Fault Unknown ∷ []
@@ -88,15 +90,18 @@ steps-pinned = refl
 
 -- ---- views: after the size, with count and shared byte, a custom's id; an integer's is its VarUInt, long or not
 pub parts-pinned : map (λ (x : List ℕ × Place). part (x .0) (x .1))
-    ((alice, at 7 8 14 2) ∷ (of 3 0x088005, at 8 1 3 1) ∷ (of 5 0x0503010805, at 5 1 5 1) ∷ (of 5 0x1e038005aa, at 0x1e 1 5 1) ∷ (of 1 0x01, at 1 1 1 1) ∷ (of 1 0x01, at 1 2 1 0) ∷ [])
+    ((alice, at 7 8 14 2) ∷ (of 3 0x088005, at 8 1 3 1) ∷ (of 5 0x0503010805, at 5 1 5 1) ∷ (of 5 0x1e038005aa, at 0x1e 1 5 1) ∷ (of 1 0x01, at 1 1 1 1)
+    ∷ (of 1 0x01, at 1 2 1 0) ∷ [])
     ≡ P.At 9 14 ∷ P.At 1 3 ∷ P.At 2 5 ∷ P.At 2 5 ∷ P.At 1 1 ∷ P.Fault Early ∷ []
 unfolding varUInt isText due known isBare hasSize readVarUInt fixed head payload check part
 parts-pinned = refl
 
 -- ---- lookup: the first of the name, an empty one too; a fault on the way; not there; wrong kind
 pub lookups-pinned : map (λ (x : List ℕ × (Place × List ℕ)). lookup (x .0) (x .1 .0) (x .1 .1))
-    ((alice, (at 2 1 20 1, of 3 0x616765)) ∷ (alice, (at 2 1 20 1, of 2 0x6167)) ∷ (of 7 0x03050101610161, (at 3 1 7 1, of 1 0x61)) ∷ (of 5 0x03030d0161, (at 3 1 5 1, []))
-    ∷ (of 4 0x03020d00, (at 3 1 4 1, [])) ∷ (of 6 0x0204c1016115, (at 2 1 6 1, of 1 0x62)) ∷ (of 6 0x0204c1016115, (at 2 1 6 1, of 1 0x61)) ∷ (of 4 0x04020141, (at 4 1 4 1, [])) ∷ [])
+    ((alice, (at 2 1 20 1, of 3 0x616765)) ∷ (alice, (at 2 1 20 1, of 2 0x6167)) ∷ (of 7 0x03050101610161, (at 3 1 7 1, of 1 0x61))
+    ∷ (of 5 0x03030d0161, (at 3 1 5 1, []))
+    ∷ (of 4 0x03020d00, (at 3 1 4 1, [])) ∷ (of 6 0x0204c1016115, (at 2 1 6 1, of 1 0x62)) ∷ (of 6 0x0204c1016115, (at 2 1 6 1, of 1 0x61))
+    ∷ (of 4 0x04020141, (at 4 1 4 1, [])) ∷ [])
     ≡ F.At (at 8 19 20 2) ∷ F.NotThere ∷ F.At (at 1 5 5 2) ∷ F.NotThere
     ∷ F.At (at 0x0d 4 4 2) ∷ F.Fault Unknown ∷ F.At (at 1 5 5 2) ∷ F.WrongKind ∷ []
 unfolding varUInt isText due equal known isBare readVarUInt fixed isEmpty front head payload check meet step lookup
@@ -122,12 +127,14 @@ unfolding varUInt isText due known isBare readVarUInt fixed head payload check u
 unsigned-pinned = refl
 
 pub doubles-pinned : map (λ (x : List ℕ × Place). double (x .0) (x .1)) numbers
-    ≡ D.Bits 0x4014000000000000 ∷ D.Bits 0xbff0000000000000 ∷ D.OutOfRange ∷ D.OutOfRange ∷ D.Bits 0x4340000000000000 ∷ D.OutOfRange ∷ D.Bits 0xc340000000000000
+    ≡ D.Bits 0x4014000000000000 ∷ D.Bits 0xbff0000000000000 ∷ D.OutOfRange ∷ D.OutOfRange ∷ D.Bits 0x4340000000000000 ∷ D.OutOfRange
+    ∷ D.Bits 0xc340000000000000
     ∷ D.Bits 0x3ff0000000000000 ∷ D.Bits 0xfff8000020000000 ∷ D.WrongKind ∷ D.WrongKind ∷ []
 unfolding varUInt isText due known isBare readVarUInt fixed head payload check double widen ofInteger ofBits toBits ofInt nanBits
 doubles-pinned = refl
 
 pub ticks-pinned : map (λ (x : List ℕ × Place). ticks (x .0) (x .1)) numbers
-    ≡ K.WrongKind ∷ K.WrongKind ∷ K.WrongKind ∷ K.WrongKind ∷ K.WrongKind ∷ K.WrongKind ∷ K.WrongKind ∷ K.WrongKind ∷ K.WrongKind ∷ K.Are (negsuc 0) ∷ K.WrongKind ∷ []
+    ≡ K.WrongKind ∷ K.WrongKind ∷ K.WrongKind ∷ K.WrongKind ∷ K.WrongKind ∷ K.WrongKind ∷ K.WrongKind ∷ K.WrongKind ∷ K.WrongKind
+    ∷ K.Are (negsuc 0) ∷ K.WrongKind ∷ []
 unfolding varUInt isText due known isBare readVarUInt fixed head payload check ticks nanBits
 ticks-pinned = refl

@@ -78,7 +78,8 @@ module _ {d : ℕ} {s : List ℕ} {c : Place} {x : Standing (Node (Standing (Lay
   viewed =
       let n = sizeLength (Is (x .0)) (i .bytes) in
       let l : length (take n (i .bytes)) ≡ n = length-take-le n (i .bytes) (size-le (x .0) (i .bytes)) in
-      let t : length (take n (i .bytes)) + length (drop n (i .bytes)) ≡ length (i .bytes) = sym (length-append (take n (i .bytes)) (drop n (i .bytes))) ∙ ap length (take-append-drop n (i .bytes)) in
+      let t : length (take n (i .bytes)) + length (drop n (i .bytes)) ≡ length (i .bytes) =
+      sym (length-append (take n (i .bytes)) (drop n (i .bytes))) ∙ ap length (take-append-drop n (i .bytes)) in
       let p = part-right (take n (i .bytes)) (drop n (i .bytes)) (part-is (i .there) (sym (take-append-drop n (i .bytes)))) in
       rw (found, i .coded, known-rt (x .0), part-slice (c .end) (i .bytes) (i .there) (i .ends))
       (part-slice (c .end) (drop n (i .bytes)) (part-to p (ap (λ k. c .start + k) l)) (omega (arith, i .ends)))
@@ -86,7 +87,8 @@ module _ {d : ℕ} {s : List ℕ} {c : Place} {x : Standing (Node (Standing (Lay
 -- ---- a field that the reader reads, as a step meets it
 
 -- in the bytes r, which stand from `at` to e; u is what is left of them
-pub record MetAt (d : ℕ) (s : List ℕ) (depth e : ℕ) (f : Form) (at : ℕ) (r : List ℕ) (x : Named (Standing (Node (Standing (Layout d))))) (u : List ℕ) : Type 0 where
+pub record MetAt (d : ℕ) (s : List ℕ) (depth e : ℕ) (f : Form) (at : ℕ) (r : List ℕ) (x : Named (Standing (Node (Standing (Layout d)))))
+    (u : List ℕ) : Type 0 where
   pub place : Place
   pub name-start : ℕ
   pub flaws : List Flaw
@@ -104,7 +106,8 @@ pub record MetAt (d : ℕ) (s : List ℕ) (depth e : ℕ) (f : Form) (at : ℕ) 
   pub after : Part s (place .end) u
   pub left : place .end + length u ≡ e
 
-pub field-met : (d : ℕ) (s : List ℕ) (depth e : ℕ) (f : Form) (at : ℕ) (r : List ℕ) (x : Named (Standing (Node (Standing (Layout d))))) (fs : List Flaw) (u : List ℕ) → Full f
+pub field-met : (d : ℕ) (s : List ℕ) (depth e : ℕ) (f : Form) (at : ℕ) (r : List ℕ) (x : Named (Standing (Node (Standing (Layout d)))))
+    (fs : List Flaw) (u : List ℕ) → Full f
     → Part s at r → at + length r ≡ e → d + depth ≡ depthLimit → 1 ≤ depth → readField (read d) f r ≡ got x fs u → MetAt d s depth e f at r x u
 field-met d s depth e f at r x fs u full pr el dl dp h =
     bind-got (front f r) _ h λ y es q gs i k _. bind-got (readNode (read d) (y .1) q) _ k λ t es′ u′ gs′ i′ k′ _.
@@ -113,8 +116,8 @@ field-met d s depth e f at r x fs u full pr el dl dp h =
     let ex : (y .0, (y .1, t)) ≡ x = cc in
     subst (λ x. MetAt d s depth e f at r x u) ex (one y es q g es″ gs″ t i (rw z at i″) j)
   where
-    one : (y : List ℕ × Kind) (es : List Flaw) (q : List ℕ) (g : Head) (gs hs : List Flaw) (t : Node (Standing (Layout d))) → front f r ≡ got y es q → head (y .1) q ≡ got g gs u
-        → contents (read d) g ≡ got t hs [] → MetAt d s depth e f at r (y .0, (y .1, t)) u
+    one : (y : List ℕ × Kind) (es : List Flaw) (q : List ℕ) (g : Head) (gs hs : List Flaw) (t : Node (Standing (Layout d))) → front f r ≡ got y es q
+        → head (y .1) q ≡ got g gs u → contents (read d) g ≡ got t hs [] → MetAt d s depth e f at r (y .0, (y .1, t)) u
     one y es q g gs hs t i j k =
         let n = front-read f r i in
         let l = local-head (y .1) q g gs u j in

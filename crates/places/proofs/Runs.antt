@@ -19,7 +19,8 @@ run-many p (suc n) r xs fs h = bind-got (p r) _ h λ x es q gs e k _. bind-got (
     let y : u ≡ [] = cc in
     subst (Run p r) z (es, q, e, run-many p n q ys es′ (rw y at e′))
 
-pub many-counts : {A B : Type 0} (f : A → B) (p : List ℕ → Out A) (n : ℕ) (r : List ℕ) {xs : List A} {fs : List Flaw} {q : List ℕ} → many p n r ≡ got xs fs q → length (map f xs) ≡ n
+pub many-counts : {A B : Type 0} (f : A → B) (p : List ℕ → Out A) (n : ℕ) (r : List ℕ) {xs : List A} {fs : List Flaw} {q : List ℕ}
+    → many p n r ≡ got xs fs q → length (map f xs) ≡ n
 many-counts f p zero r {xs} h = let z : xs ≡ [] = cc in rw z
 many-counts f p (suc n) r {xs} h = bind-got (p r) _ h λ x es q gs e k _. bind-got (many p n q) _ k λ ys es′ u gs′ e′ k′ _.
     let z : xs ≡ x ∷ ys = cc in

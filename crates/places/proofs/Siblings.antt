@@ -42,7 +42,8 @@ module _ {A : Type 0} (P : Place → Standing A → Type 0) (s : List ℕ) (c : 
   walk-places (suc n) a l (q ∷ ps) [] h w = absurd w
   walk-places (suc n) a l (q ∷ ps) (x ∷ xs) h w = rw (w .0 .stepped, walk-places n (q .end) (Last q) ps xs (omega arith) (w .1))
 
-  walk-nth : (i a : ℕ) (l : After) (ps : List Place) (xs : List (Named (Standing A))) → Walk P s c how a l ps xs → nth i ps ≡ onward (λ q. some (q .1)) (stepTo i s c l)
+  walk-nth : (i a : ℕ) (l : After) (ps : List Place) (xs : List (Named (Standing A))) → Walk P s c how a l ps xs
+      → nth i ps ≡ onward (λ q. some (q .1)) (stepTo i s c l)
   walk-nth zero a l [] [] w = rw (w .0)
   walk-nth (suc i) a l [] [] w = rw (w .0)
   walk-nth i a l [] (x ∷ xs) w = absurd w
@@ -50,7 +51,8 @@ module _ {A : Type 0} (P : Place → Standing A → Type 0) (s : List ℕ) (c : 
   walk-nth zero a l (q ∷ ps) (x ∷ xs) w = rw (w .0 .stepped)
   walk-nth (suc i) a l (q ∷ ps) (x ∷ xs) w = rw (w .0 .stepped) (walk-nth i (q .end) (Last q) ps xs (w .1))
 
-  walk-payloads : (a : ℕ) (l : After) (ps : List Place) (xs : List (Named (Standing A))) → Walk P s c how a l ps xs → All (λ q. (a ≤ q .start) × (q .start ≤ q .end) × (q .end ≤ c .end)) ps
+  walk-payloads : (a : ℕ) (l : After) (ps : List Place) (xs : List (Named (Standing A))) → Walk P s c how a l ps xs
+      → All (λ q. (a ≤ q .start) × (q .start ≤ q .end) × (q .end ≤ c .end)) ps
   walk-payloads a l [] [] w = tt
   walk-payloads a l [] (x ∷ xs) w = absurd w
   walk-payloads a l (q ∷ ps) [] w = absurd w
@@ -109,7 +111,8 @@ leaf-laid path s c w n = wrong-leaf s c Start w λ v fs r e.
     none-left zero = rw w
     none-left (suc i) = rw w
 
-field-laid : (path s : List ℕ) (c : Place) (d : ℕ) (x : Standing (Layout d)) → Shown d s c x → onward countIn (fieldIn path s) ≡ some (fieldCount d x) → Inside path s c
+field-laid : (path s : List ℕ) (c : Place) (d : ℕ) (x : Standing (Layout d)) → Shown d s c x
+    → onward countIn (fieldIn path s) ≡ some (fieldCount d x) → Inside path s c
 field-laid path s c zero x i n = absurd i
 field-laid path s c (suc d) x i n = at (x .1) (i .node) n
   where
@@ -121,12 +124,13 @@ field-laid path s c (suc d) x i n = at (x .1) (i .node) n
 -- ---- along a path
 
 -- a place that steps reach shows the field that the reader has there
-pub reached : {X : Type 0} (s : List ℕ) → mask boundsOnly s ≡ 0 → (t : Place) → top s ≡ T.At t → (path name : List ℕ) (c : Place) → placeAt path s ([], t) ≡ some (name, c)
-    → ((x : Reached) → fieldIn path s ≡ some x → name ≡ x .1 .0 → Shown (x .0) s c (x .1 .1) → X) → X
+pub reached : {X : Type 0} (s : List ℕ) → mask boundsOnly s ≡ 0 → (t : Place) → top s ≡ T.At t → (path name : List ℕ) (c : Place)
+    → placeAt path s ([], t) ≡ some (name, c) → ((x : Reached) → fieldIn path s ≡ some x → name ≡ x .1 .0 → Shown (x .0) s c (x .1 .1) → X) → X
 reached {X} s h t e path name c p k =
     let i = every-field-shown s h in
     let z : t ≡ i .place = (let y : T.At t ≡ T.At (i .place) = sym e ∙ i .is-top in cc) in
-    at (fieldAt path depthLimit ([], (i .kind, i .layout))) (rw (i .was-read)) (placeAt path s ([], i .place)) (ap (λ q. placeAt path s ([], q)) (sym z) ∙ p) (every-field-reached s i path)
+    at (fieldAt path depthLimit ([], (i .kind, i .layout))) (rw (i .was-read)) (placeAt path s ([], i .place)) (ap (λ q. placeAt path s ([], q)) (sym z) ∙ p)
+    (every-field-reached s i path)
   where
     at : (o : Option Reached) → fieldIn path s ≡ o → (q : Option (Named Place)) → q ≡ some (name, c) → Agree s o q → X
     at none f none g a = clash (cc)
@@ -137,5 +141,6 @@ reached {X} s h t e path name c p k =
         k x f (ap (λ (r : Named Place). r .0) (sym y) ∙ a .0) (subst (λ (r : Named Place). Shown (x .0) s (r .1) (x .1 .1)) y (a .1))
 
 -- In any payload that the bounds check passes, at every place that steps from the top reach along a path
-pub stepping-inside : (s : List ℕ) → mask boundsOnly s ≡ 0 → (t : Place) → top s ≡ T.At t → (path name : List ℕ) (c : Place) → placeAt path s ([], t) ≡ some (name, c) → Inside path s c
+pub stepping-inside : (s : List ℕ) → mask boundsOnly s ≡ 0 → (t : Place) → top s ≡ T.At t → (path name : List ℕ) (c : Place)
+    → placeAt path s ([], t) ≡ some (name, c) → Inside path s c
 stepping-inside s h t e path name c p = reached s h t e path name c p λ x f n i. field-laid path s c (x .0) (x .1 .1) i (ap (onward countIn) f)

@@ -1,5 +1,5 @@
--- A view is a part of the payload: of any place that passes its check, and of every field that steps reach, leaf or container. What `Seen` says, specs/Views.antt
--- has.
+-- A view is a part of the payload: of any place that passes its check, and of every field that steps reach, leaf or container. What `Seen` says,
+-- specs/Views.antt has.
 use Prim.Native.Nat.{ℕ, zero, suc, _+_, _-_, _≤_}
 use native.Mathlib.Omega.{arith}
 use mathlib.Core.Path.{_≡_, refl, sym, ap, _∙_, subst}
@@ -124,7 +124,9 @@ Split how ks e b = (w i : List ℕ) × (b ≡ w ++ i) × Reads readVarUInt w (le
 opens-split : (how : Payload) (ks : List Kind) (e : ℕ) (b : List ℕ) → Opens how ks e b → Split how ks e b
 opens-split (leaf p) ks e b o = absurd o
 opens-split fields ks e b o = let z : e ≡ 0 + e = omega arith in (b, [], sym (append-nil b), subst (Reads readVarUInt b) z o, refl)
-opens-split sharedFields ks e b (w, j, h, r, a) = let z : suc e ≡ 1 + e = omega arith in (w, typeByte SharedByFields j ∷ [], h, subst (Reads readVarUInt w) z r, (j, refl, a))
+opens-split sharedFields ks e b (w, j, h, r, a) =
+    let z : suc e ≡ 1 + e = omega arith in
+    (w, typeByte SharedByFields j ∷ [], h, subst (Reads readVarUInt w) z r, (j, refl, a))
 opens-split items ks e b o = o
 opens-split sharedItems ks e b (w, n, j, h, r, c, a) =
     let i = n ++ (typeByte SharedByItems j ∷ []) in
@@ -132,7 +134,8 @@ opens-split sharedItems ks e b (w, n, j, h, r, c, a) =
     (w, i, h, subst (Reads readVarUInt w) z r, (n, j, refl, c, a))
 
 module _ {A : Type 0} (P : Place → Standing A → Type 0) (s : List ℕ) (k : Kind) (c : Place) (xs : List (Named (Standing A))) where
-  fields-viewed : (f : ShownFields P s k c xs) → hasSize k ≡ true → c .kind ≡ id k → {h : Head} {fs : List Flaw} {r : List ℕ} → check s c ≡ got h fs r → ContainerView s k c (kindsIn xs)
+  fields-viewed : (f : ShownFields P s k c xs) → hasSize k ≡ true → c .kind ≡ id k → {h : Head} {fs : List Flaw} {r : List ℕ} → check s c ≡ got h fs r
+      → ContainerView s k c (kindsIn xs)
   unfolding part view
   fields-viewed f size coded {h} {fs} {r} e =
       let l : f .contents ≤ c .end = omega (arith, walk-few P s c (payload k) (f .contents) Start (f .places) xs (f .walk)) in
@@ -141,11 +144,14 @@ module _ {A : Type 0} (P : Place → Standing A → Type 0) (s : List ℕ) (k : 
       let w = o .0 in
       let b = o .1 in
       let t = slice (f .contents) (c .end) s in
-      let all : slice (c .start) (c .end) s ≡ w ++ (b ++ t) = sym (slice-join (c .start) (f .contents) (c .end) s (f .inside) l) ∙ ap (λ y. y ++ t) (o .2) ∙ append-assoc w b t in
-      let n : sizeLength (known (c .kind)) (slice (c .start) (c .end) s) ≡ length w = rw (coded, known-rt k, size, all) (size-taken w (b ++ t) (length b + (c .end - f .contents)) (o .3)) in
+      let all : slice (c .start) (c .end) s ≡ w ++ (b ++ t) =
+      sym (slice-join (c .start) (f .contents) (c .end) s (f .inside) l) ∙ ap (λ y. y ++ t) (o .2) ∙ append-assoc w b t in
+      let n : sizeLength (known (c .kind)) (slice (c .start) (c .end) s) ≡ length w =
+      rw (coded, known-rt k, size, all) (size-taken w (b ++ t) (length b + (c .end - f .contents)) (o .3)) in
       let len : length (slice (c .start) (c .end) s) ≡ length w + length (b ++ t) = ap length all ∙ length-append w (b ++ t) in
       let v : slice (c .start + length w) (c .end) s ≡ b ++ t =
-      part-slice (c .end) (b ++ t) (part-right w (b ++ t) (part-is (slice-part s (c .start) (c .end) (i .order) (i .inside)) all)) (omega (arith, len, length-slice (c .start) (c .end) s (i .inside), i .order)) in
+      part-slice (c .end) (b ++ t) (part-right w (b ++ t) (part-is (slice-part s (c .start) (c .end) (i .order) (i .inside)) all))
+      (omega (arith, len, length-slice (c .start) (c .end) s (i .inside), i .order)) in
       let vl : length b + (c .end - f .contents) ≡ length (b ++ t) = omega (arith, length-append b t, length-slice (f .contents) (c .end) s (i .inside)) in
       let vw : view s c ≡ b ++ t = rw (e, n) v in
       record {
@@ -176,9 +182,11 @@ unfolding hasSize
 object-size k (inl e) = rw e
 object-size k (inr e) = rw e
 
-node-viewed : (d : ℕ) (s : List ℕ) (k : Kind) (c : Place) (t : Node (Standing (Layout d))) → c .kind ≡ id k → checked s c ≡ C.Good → ShownNode (Shown d s) s k c t → NodeView s k c t
+node-viewed : (d : ℕ) (s : List ℕ) (k : Kind) (c : Place) (t : Node (Standing (Layout d))) → c .kind ≡ id k → checked s c ≡ C.Good
+    → ShownNode (Shown d s) s k c t → NodeView s k c t
 node-viewed d s k c (atom v) e g i = i .viewed
-node-viewed d s k c (array xs) e g i = good-check s c g λ h fs r j. fields-viewed (Shown d s) s k c (map unnamed xs) (i .items) (array-size k (i .is-array)) e j
+node-viewed d s k c (array xs) e g i =
+    good-check s c g λ h fs r j. fields-viewed (Shown d s) s k c (map unnamed xs) (i .items) (array-size k (i .is-array)) e j
 node-viewed d s k c (object xs) e g i = good-check s c g λ h fs r j. fields-viewed (Shown d s) s k c xs (i .fields) (object-size k (i .is-object)) e j
 
 -- ---- along a path
@@ -196,7 +204,8 @@ seen s c (suc d) x i =
     (v, node-viewed d s (x .0) c (x .1) (i .kind) (i .no-fault) (i .node), begins-by s c (x .0) (v .from) (i .kind) (v .begins))
 
 -- In any payload that the bounds check passes, at every place that steps from the top reach along a path
-pub every-view : (s : List ℕ) → mask boundsOnly s ≡ 0 → (t : Place) → top s ≡ T.At t → (path name : List ℕ) (c : Place) → placeAt path s ([], t) ≡ some (name, c) → Seen path s c
+pub every-view : (s : List ℕ) → mask boundsOnly s ≡ 0 → (t : Place) → top s ≡ T.At t → (path name : List ℕ) (c : Place)
+    → placeAt path s ([], t) ≡ some (name, c) → Seen path s c
 every-view s h t e path name c p = reached s h t e path name c p λ x f n i.
     let v = seen s c (x .0) (x .1 .1) i in
     record { from = v .0 .from; is-part = v .0 .is-part; inside = v .0 .inside; is-view = v .0 .is-view; field = x; is-field = f; begins = v .2; shows = v .1 }

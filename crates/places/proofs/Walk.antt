@@ -51,9 +51,10 @@ every-field-shown s h = mask-case boundsOnly s h λ l m. bounds-case (read depth
       shown = i .5;
     }
 
--- 1. The same, path by path: there is a field of the tree along a path exactly if steps along it reach a place; and then the name view met last is its name, and
--- the place shows its kind and its value
-pub every-field-reached : (s : List ℕ) (i : ShownPayload s) (path : List ℕ) → Agree s (fieldAt path depthLimit ([], (i .kind, i .layout))) (placeAt path s ([], i .place))
+-- 1. The same, path by path: there is a field of the tree along a path exactly if steps along it reach a place; and then the name view met last is its name,
+-- and the place shows its kind and its value
+pub every-field-reached : (s : List ℕ) (i : ShownPayload s) (path : List ℕ)
+    → Agree s (fieldAt path depthLimit ([], (i .kind, i .layout))) (placeAt path s ([], i .place))
 every-field-reached s i path = path-agrees path depthLimit s ([], (i .kind, i .layout)) ([], i .place) refl (i .shown)
 
 -- 1. and so for the encoding of a tree within the limits, whose tree is that one
@@ -63,13 +64,15 @@ encoding-shown t w =
     let i = every-field-shown (encoding depthLimit t) (e .0 boundsOnly) in
     (i, one-tree (encoding depthLimit t) (tree depthLimit (i .layout)) t (i .its-tree) (e .1))
 
--- 2. The walk: in any payload that the bounds check alone passes (so that there is an i), stepping from the top, and in each field met, meets each field of its
--- tree once, in order, with its name and kind, one deeper than its container; then "no more", and on a leaf "wrong kind"
+-- 2. The walk: in any payload that the bounds check alone passes (so that there is an i), stepping from the top, and in each field met, meets each field of
+-- its tree once, in order, with its name and kind, one deeper than its container; then "no more", and on a leaf "wrong kind"
 pub walk-meets-each-once : (s : List ℕ) (i : ShownPayload s) → stepping depthLimit s (i .place) ≡ events depthLimit 2 (i .kind, i .layout)
-walk-meets-each-once s i = steps-events depthLimit s (i .place) (i .kind, i .layout) (i .shown) ∙ ap (λ (n : ℕ). events depthLimit (n + 1) (i .kind, i .layout)) (i .depth-1)
+walk-meets-each-once s i =
+    steps-events depthLimit s (i .place) (i .kind, i .layout) (i .shown) ∙ ap (λ (n : ℕ). events depthLimit (n + 1) (i .kind, i .layout)) (i .depth-1)
 
 -- 2. of every container that is shown
-module _ {A : Type 0} (Shows : Place → Standing A → Type 0) (s : List ℕ) (k : Kind) (c : Place) (xs : List (Named (Standing A))) (f : ShownFields Shows s k c xs) where
+module _ {A : Type 0} (Shows : Place → Standing A → Type 0) (s : List ℕ) (k : Kind) (c : Place) (xs : List (Named (Standing A)))
+    (f : ShownFields Shows s k c xs) where
   -- 2. a place for each field
   pub one-place-each : length (f .places) ≡ length xs
   one-place-each = walk-each Shows s c (payload k) (f .contents) Start (f .places) xs (f .walk)
@@ -84,8 +87,10 @@ module _ {A : Type 0} (Shows : Place → Standing A → Type 0) (s : List ℕ) (
 
   -- 2. no two siblings overlapping, neither with all that stands before their payloads, nor as the places say
   pub siblings-apart : Apart (ranges (f .contents) (f .places)) × Apart (map payloadRange (f .places))
-  siblings-apart =
-      (walk-ranges Shows s c (payload k) (f .contents) Start (f .places) xs (f .walk) .1, walk-apart Shows s c (payload k) (f .contents) Start (f .places) xs (f .walk))
+  siblings-apart = (
+    walk-ranges Shows s c (payload k) (f .contents) Start (f .places) xs (f .walk) .1,
+    walk-apart Shows s c (payload k) (f .contents) Start (f .places) xs (f .walk),
+  )
 
 -- 3. of every object that is shown, and any name m
 module _ (d : ℕ) (s : List ℕ) (c : Place) (k : Kind) (xs : List (Named (Standing (Layout d)))) (i : Shown (suc d) s c (k, object xs)) (m : List ℕ) where

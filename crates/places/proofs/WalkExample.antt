@@ -23,6 +23,7 @@ abbrev alice : List ℕ
 alice = 0x02 ∷ 0x12 ∷ 0xc7 ∷ 0x04 ∷ 0x6e ∷ 0x61 ∷ 0x6d ∷ 0x65 ∷ 0x05 ∷ 0x41 ∷ 0x6c ∷ 0x69 ∷ 0x63 ∷ 0x65 ∷ 0xc8 ∷ 0x03 ∷ 0x61 ∷ 0x67 ∷ 0x65 ∷ 0x1e ∷ []
 
 -- an object with a String "name" and an Integer "age"
-pub alice-walked : steppingFrom alice (top alice) ≡ met (0x6e ∷ 0x61 ∷ 0x6d ∷ 0x65 ∷ []) 0x07 2 ∷ ended WrongKind ∷ met (0x61 ∷ 0x67 ∷ 0x65 ∷ []) 0x08 2 ∷ ended WrongKind ∷ ended NoMore ∷ []
+pub alice-walked : steppingFrom alice (top alice) ≡ met (0x6e ∷ 0x61 ∷ 0x6d ∷ 0x65 ∷ []) 0x07 2 ∷ ended WrongKind ∷ met (0x61 ∷ 0x67 ∷ 0x65 ∷ []) 0x08 2
+    ∷ ended WrongKind ∷ ended NoMore ∷ []
 unfolding varUInt isText due known isBare readVarUInt fixed isEmpty front head payload check meet top step
 alice-walked = refl

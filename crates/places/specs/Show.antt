@@ -1,5 +1,6 @@
 -- What the calls show of a payload: the words in which proofs/Walk.antt states it (document 01, "Places, views and values"). A layout is the tree with
--- each field's kind as it stands (Reader.antt); `Shown` says what the calls answer at the place of each of its fields, and `ShownPayload` ties it to a payload.
+-- each field's kind as it stands (Reader.antt); `Shown` says what the calls answer at the place of each of its fields,
+-- and `ShownPayload` ties it to a payload.
 use Prim.Native.Nat.{ℕ, zero, suc, _+_, _-_, _^_, _≤_, _<_}
 use mathlib.Core.Path.{_≡_}
 use mathlib.Core.Logic.{_⊎_}
@@ -14,7 +15,9 @@ use Rattle.number.specs.Signed.{fromTwos}
 use Rattle.text.specs.Equal.{equal}
 use Rattle.float.specs.Width.{widen, ofInteger}
 use Rattle.format.specs.declared.Kind.{Kind}
-use Rattle.format.specs.declared.Kind.the-variants.{Null, Object, UniformObject, Array, UniformArray, Binary, String, IntegerPositive, IntegerNegative, Float32, Float64, False, True, ObjectAttachment, BinaryAttachment, Hash, Uuid, DateTime, TimeSpan, ObjectId, CustomById, CustomByName}
+use Rattle.format.specs.declared.Kind.the-variants.{Null, Object, UniformObject, Array, UniformArray, Binary, String, IntegerPositive, IntegerNegative}
+use Rattle.format.specs.declared.Kind.the-variants.{Float32, Float64, False, True, ObjectAttachment, BinaryAttachment, Hash, Uuid, DateTime, TimeSpan}
+use Rattle.format.specs.declared.Kind.the-variants.{ObjectId, CustomById, CustomByName}
 use Rattle.format.specs.declared.Mark.the-variants.{OfField, OfItem, SharedByFields, SharedByItems}
 use Rattle.format.specs.declared.Form.the-variants as Fo
 use Rattle.places.specs.declared.Place.{Place}
@@ -33,7 +36,8 @@ use Rattle.format.specs.Limits.{depthLimit}
 use Rattle.format.specs.Kinds.{id, typeByte}
 use Rattle.format.specs.declared.Flaw.{Flaw}
 use Rattle.format.specs.Parse.{Out, got, readVarUInt}
-use Rattle.format.specs.Tree.{Float, number, nan32, nan64, Leaf, null, bool, integer, float, binary, string, objectAttachment, binaryAttachment, hash, uuid, objectId, dateTime, timeSpan, customById, customByName, Node, atom, array, object}
+use Rattle.format.specs.Tree.{Float, number, nan32, nan64, Leaf, null, bool, integer, float, binary, string, objectAttachment, binaryAttachment, hash, uuid}
+use Rattle.format.specs.Tree.{objectId, dateTime, timeSpan, customById, customByName, Node, atom, array, object}
 use Rattle.format.specs.Payload.{Payload, leaf, fields, sharedFields, items, sharedItems, payload}
 use Rattle.format.specs.Reader.{Standing, Named, Layout, tree, kindsIn, read, treeOf}
 use Rattle.places.specs.Places.{checked, top, step, nameView, view, lookup}
@@ -110,7 +114,8 @@ Opens (leaf p) ks e b = ⊥
 Opens fields ks e b = Reads readVarUInt b e
 Opens sharedFields ks e b = (w : List ℕ) × (j : Kind) × (b ≡ w ++ (typeByte SharedByFields j ∷ [])) × Reads readVarUInt w (suc e) × All (λ k. k ≡ j) ks
 Opens items ks e b = (w n : List ℕ) × (b ≡ w ++ n) × Reads readVarUInt w (length n + e) × Reads readVarUInt n (length ks)
-Opens sharedItems ks e b = (w n : List ℕ) × (j : Kind) × (b ≡ w ++ (n ++ (typeByte SharedByItems j ∷ []))) × Reads readVarUInt w (length n + suc e) × Reads readVarUInt n (length ks) × All (λ k. k ≡ j) ks
+Opens sharedItems ks e b = (w n : List ℕ) × (j : Kind) × (b ≡ w ++ (n ++ (typeByte SharedByItems j ∷ []))) × Reads readVarUInt w (length n + suc e)
+    × Reads readVarUInt n (length ks) × All (λ k. k ≡ j) ks
 
 -- all that stands between the last field's end and the name of a field of kind k, by how the container's fields stand: type byte and name's length
 abbrev pub Before : Payload → Kind → List ℕ → List ℕ → Type 0
@@ -122,7 +127,8 @@ Before sharedItems k n b = b ≡ []
 
 -- the step after l in the container c, whose fields stand so, meets the field x at the place q: its name is the name view, and it begins at a, where
 -- the last field ended, with all before its name, then the name, then its payload
-pub record Meets {A : Type 0} (Shows : Place → Standing A → Type 0) (s : List ℕ) (c : Place) (how : Payload) (a : ℕ) (l : After) (q : Place) (x : Named (Standing A)) : Type 0 where
+pub record Meets {A : Type 0} (Shows : Place → Standing A → Type 0) (s : List ℕ) (c : Place) (how : Payload) (a : ℕ) (l : After) (q : Place)
+    (x : Named (Standing A)) : Type 0 where
   pub name-start : ℕ
   pub stepped : step s c l ≡ Field q name-start
   pub named : nameView s c l ≡ x .0

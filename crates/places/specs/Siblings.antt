@@ -68,4 +68,5 @@ pub record Inside (path payload : List ℕ) (c : Place) : Type 0 where
   pub payloads-in-turn : InTurn (contentsStart payload c) (placesIn payload c)
   pub fields-apart : Apart (ranges (contentsStart payload c) (placesIn payload c))
   pub payloads-apart : Apart (map payloadRange (placesIn payload c))
-  pub nothing-left-out : concat (λ r. slice (r .0) (r .1) payload) (ranges (contentsStart payload c) (placesIn payload c)) ≡ slice (contentsStart payload c) (c .end) payload
+  pub nothing-left-out : concat (λ r. slice (r .0) (r .1) payload) (ranges (contentsStart payload c) (placesIn payload c))
+      ≡ slice (contentsStart payload c) (c .end) payload

@@ -16,7 +16,8 @@ use Rattle.places.specs.declared.Unsigned.the-variants as U
 use Rattle.places.specs.declared.Ticks.{Ticks}
 use Rattle.places.specs.declared.Ticks.the-variants as T
 use Rattle.format.specs.Parse.{Out, fault, got}
-use Rattle.format.specs.Tree.{Float, number, nan32, nan64, Leaf, null, bool, integer, float, binary, string, objectAttachment, binaryAttachment, hash, uuid, objectId, dateTime, timeSpan, customById, customByName}
+use Rattle.format.specs.Tree.{Float, number, nan32, nan64, Leaf, null, bool, integer, float, binary, string, objectAttachment, binaryAttachment, hash, uuid}
+use Rattle.format.specs.Tree.{objectId, dateTime, timeSpan, customById, customByName}
 use Rattle.format.specs.Payload.{Head, value, fieldsIn, itemsIn}
 use Rattle.places.specs.Places.{check}
 

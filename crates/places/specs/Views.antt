@@ -50,8 +50,8 @@ abbrev pub FieldView : (d : ℕ) → List ℕ → Place → Standing (Layout d) 
 FieldView zero s c x = ⊥
 FieldView (suc d) s c x = NodeView s (x .0) c (x .1)
 
--- the place c, which steps along the path have reached: its view is a part of the payload that begins behind the size, if its kind has one, and ends where it ends; and it shows the
--- field that the reader has there
+-- the place c, which steps along the path have reached: its view is a part of the payload that begins behind the size, if its kind has one, and ends where it
+-- ends; and it shows the field that the reader has there
 pub record Seen (path payload : List ℕ) (c : Place) : Type 0 where
   pub from : ℕ
   pub is-part : part payload c ≡ P.At from (c .end)

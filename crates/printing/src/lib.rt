@@ -66,7 +66,8 @@ fn put_bytes(part: &[u8], text: &mut [u8]) -> usize
 // `refused N at P`, and its line end.
 fn refused_in(number: u32, place: u64, text: &mut [u8]) -> usize
     requires { ⌜ 35 ≤ length (now text) ⌝ }
-    ensures { λ r. ⌜ record { next = r; text = now (text .exit) } ≡ put (wordRefused ++ decimal 2 number ++ wordAt ++ decimal 20 place ++ lineEnd) (now (text .entry)) 0 ⌝ }
+    ensures { λ r. ⌜ record { next = r; text = now (text .exit) }
+        ≡ put (wordRefused ++ decimal 2 number ++ wordAt ++ decimal 20 place ++ lineEnd) (now (text .entry)) 0 ⌝ }
 {
     let number_at = put_word(b"refused ", text, 0);
     let word_at = put_decimal(2, number as u64, text, number_at);
@@ -86,7 +87,8 @@ fn encoding_in(encoding: &[u8], text: &mut [u8]) -> usize
 
 // A refusal, where the text has room for the longest; else nothing is put.
 pub fn put_refused(number: u32, place: u64, text: &mut [u8]) -> usize
-    ensures { λ r. ⌜ record { next = r; text = now (text .exit) } ≡ putIn 35 (wordRefused ++ decimal 2 number ++ wordAt ++ decimal 20 place ++ lineEnd) (now (text .entry)) ⌝ }
+    ensures { λ r. ⌜ record { next = r; text = now (text .exit) }
+        ≡ putIn 35 (wordRefused ++ decimal 2 number ++ wordAt ++ decimal 20 place ++ lineEnd) (now (text .entry)) ⌝ }
 {
     if text.len() < 35 {
         return 0;
@@ -96,7 +98,8 @@ pub fn put_refused(number: u32, place: u64, text: &mut [u8]) -> usize
 
 // An encoding, where the text has room for it; else nothing is put.
 pub fn put_encoding(encoding: &[u8], text: &mut [u8]) -> usize
-    ensures { λ r. ⌜ record { next = r; text = now (text .exit) } ≡ putIn (2 * length (now (encoding .entry)) + 1) (concat hexByte (now (encoding .entry)) ++ lineEnd) (now (text .entry)) ⌝ }
+    ensures { λ r. ⌜ record { next = r; text = now (text .exit) }
+        ≡ putIn (2 * length (now (encoding .entry)) + 1) (concat hexByte (now (encoding .entry)) ++ lineEnd) (now (text .entry)) ⌝ }
 {
     if text.len() == 0 {
         return 0;

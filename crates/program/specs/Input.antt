@@ -1,5 +1,6 @@
--- Input that is read in parts: each is typed on behind those before it. No contract can say what is read: these say that what is typed, and then printed, is that of some parts,
--- whatever they were, typed from nothing, one behind the other. That they are what stands in the input is run (tests/statuses, tests/answer), and not proved.
+-- Input that is read in parts: each is typed on behind those before it. No contract can say what is read: these say that what is typed, and then printed, is
+-- that of some parts, whatever they were, typed from nothing, one behind the other. That they are what stands in the input is run (tests/statuses,
+-- tests/answer), and not proved.
 use Prim.Native.Nat.{ℕ, _^_, _≤_, _<_}
 use mathlib.Core.Path.{_≡_}
 use mathlib.Core.List.{List, [], _∷_, _++_}

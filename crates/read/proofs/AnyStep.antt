@@ -42,7 +42,8 @@ passes : (s : List ℕ) (p : Place) (k : Kind) (v : List ℕ) (h : Head) (gs : L
     → 1 ≤ p .depth → p .depth ≤ depthLimit
     → p .kind ≡ id k → slice (p .start) (p .end) s ≡ v → head k v ≡ got h gs [] → checked s p ≡ C.Good
 unfolding checked
-passes s p k v h gs short order inside deep shallow kind bytes e = rw (check-within s p short order inside (λ z. omega arith) shallow, kind, known-rt k, bytes, e)
+passes s p k v h gs short order inside deep shallow kind bytes e =
+    rw (check-within s p short order inside (λ z. omega arith) shallow, kind, known-rt k, bytes, e)
 
 met-good : (s : List ℕ) (d e at : ℕ) (f : Form) (t : List ℕ) (q : Place) (n : ℕ) → length s ≤ lengthLimit → e ≤ length s
     → 1 ≤ d → d ≤ depthLimit → Part s at t → at + length t ≡ e

@@ -73,7 +73,8 @@ leaf-wide Wide b = ap holds (bits-back b)
 leaf-wide NotUtf8 b = refl
 leaf-wide NotUniform b = refl
 
-pub array-is : (f : Flaw) (k : Kind) (ks : List Kind) → same k Object ≡ false → flawedPart f k (array ks) ≡ (is f NotUniform && (same k Array && isUniformArray ks))
+pub array-is : (f : Flaw) (k : Kind) (ks : List Kind) → same k Object ≡ false
+    → flawedPart f k (array ks) ≡ (is f NotUniform && (same k Array && isUniformArray ks))
 unfolding twins
 array-is Twin k ks h = refl
 array-is Blank k ks h = refl

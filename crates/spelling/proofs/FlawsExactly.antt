@@ -129,7 +129,9 @@ uniform-array-exactly ks = (to ks, λ i. rw (i .2 .1, not-bare-exactly (i .0) .1
   where
     to : (ks : List Kind) → isUniformArray ks ≡ true → (j : Kind) × (Bare j → ⊥) × OneId j ks
     to [] h = fails h
-    to (k ∷ ks) h = let i = and-true (not (isBare k)) (all (same k) ks) h in (k, not-bare-exactly k .0 (not-true (isBare k) (i .0)), (ks, refl, all-to k ks (i .1)))
+    to (k ∷ ks) h =
+        let i = and-true (not (isBare k)) (all (same k) ks) h in
+        (k, not-bare-exactly k .0 (not-true (isBare k) (i .0)), (ks, refl, all-to k ks (i .1)))
 
 not-uniform-exactly : (k : Kind) (ks : List Kind)
     → (((same k Object && isUniform ks) || (same k Array && isUniformArray ks)) ≡ true) ↔ (((k ≡ Object) × (j : Kind) × OneId j ks)

@@ -1,5 +1,5 @@
--- The flaws that the reader meets are those that the layout has (specs/Flawed.antt): a second witness of each, but for `long`, which no layout shows. A layer, every
--- layer, and the mask of a payload that was read.
+-- The flaws that the reader meets are those that the layout has (specs/Flawed.antt): a second witness of each, but for `long`, which no layout shows. A layer,
+-- every layer, and the mask of a payload that was read.
 use Prim.Native.Nat.{ℕ, zero, suc, _+_}
 use mathlib.Core.Path.{_≡_, refl, sym, ap, subst, _∙_}
 use mathlib.Core.Bool.{Bool, true, false, _&&_, _||_, or-false, or-true, or-assoc, or-comm}
@@ -99,7 +99,8 @@ module _ (f : Flaw) (shows : is f Long ≡ false) where
       (tells-field (read d) (flawed f d) (tells-read d) g c s)
 
   -- of what was read, the flaw was met exactly if the layout has it
-  pub met-is-flawed : (d : ℕ) (s : List ℕ) (x : Named (Standing (Layout d))) (fs : List Flaw) (r : List ℕ) → read d Top s ≡ got x fs r → has f fs ≡ flawed f d (x .1)
+  pub met-is-flawed : (d : ℕ) (s : List ℕ) (x : Named (Standing (Layout d))) (fs : List Flaw) (r : List ℕ) → read d Top s ≡ got x fs r
+      → has f fs ≡ flawed f d (x .1)
   met-is-flawed d s x fs r h = subst (λ o. Tells f false (Adds false (fieldFlawed (read d) (flawed f d) Top)) o) h (tells-read d Top false s) .says
 
 -- ---- of a payload
@@ -122,7 +123,8 @@ flaws-of-read d s x fs r e NotUniform = met-is-flawed NotUniform refl d s x fs r
 pub flaws-are : (s : List ℕ) (i : ShownPayload s) (f : Flaw) → has f (i .flaws) ≡ shownFlaw depthLimit (i .kind, i .layout) (has Long (i .flaws)) f
 flaws-are s i f = flaws-of-read depthLimit s _ _ _ (i .was-read) f
 
-pub sum-where : (modes : ℕ) (met : List Flaw) (so : Flaw → Bool) → ((f : Flaw) → has f met ≡ so f) → (fs : List Flaw) → sumOf modes met fs ≡ sumWhere modes so fs
+pub sum-where : (modes : ℕ) (met : List Flaw) (so : Flaw → Bool) → ((f : Flaw) → has f met ≡ so f) → (fs : List Flaw)
+    → sumOf modes met fs ≡ sumWhere modes so fs
 sum-where modes met so h [] = refl
 sum-where modes met so h (f ∷ fs) = rw (h f, sum-where modes met so h fs)
 

@@ -13,7 +13,9 @@ use Rattle.number.specs.declared.VarUInt.the-variants.{Cut, Whole}
 use Rattle.text.specs.Utf8.{isText}
 use Rattle.float.specs.Rule.{holds}
 use Rattle.format.specs.declared.Kind.{Kind}
-use Rattle.format.specs.declared.Kind.the-variants.{Null, Object, UniformObject, Array, UniformArray, Binary, String, IntegerPositive, IntegerNegative, Float32, Float64, False, True, ObjectAttachment, BinaryAttachment, Hash, Uuid, DateTime, TimeSpan, ObjectId, CustomById, CustomByName}
+use Rattle.format.specs.declared.Kind.the-variants.{Null, Object, UniformObject, Array, UniformArray, Binary, String, IntegerPositive, IntegerNegative}
+use Rattle.format.specs.declared.Kind.the-variants.{Float32, Float64, False, True, ObjectAttachment, BinaryAttachment, Hash, Uuid, DateTime, TimeSpan}
+use Rattle.format.specs.declared.Kind.the-variants.{ObjectId, CustomById, CustomByName}
 use Rattle.format.specs.declared.Known.{Known}
 use Rattle.format.specs.declared.Known.the-variants.{Unknown, Is}
 use Rattle.format.specs.declared.Mark.{Mark}
@@ -26,12 +28,15 @@ use Rattle.format.specs.declared.Flaw.{Flaw}
 use Rattle.format.specs.declared.Flaw.the-variants.{Blank, Long, Low, Wide, NotUtf8}
 use Rattle.format.specs.Parse.{Out, got, bind, make, number, readVarUInt, fixed, sized, rest}
 use Rattle.format.specs.Names.{isEmpty, readText, readName}
-use Rattle.format.specs.Tree.{Leaf, null, bool, integer, float, binary, string, objectAttachment, binaryAttachment, hash, uuid, objectId, customById, customByName, atom}
-use Rattle.format.specs.Payload.{payload, kindFound, readType, float64, readNegative, readFloat64, readCustomById, readCustomByName, Head, value, fieldsIn, itemsIn, sharedFieldsOf, readSharedFields, sharedItemsOf, readSharedItems, readFields, readItems, front, head}
+use Rattle.format.specs.Tree.{Leaf, null, bool, integer, float, binary, string, objectAttachment, binaryAttachment, hash, uuid, objectId, customById}
+use Rattle.format.specs.Tree.{customByName, atom}
+use Rattle.format.specs.Payload.{payload, kindFound, readType, float64, readNegative, readFloat64, readCustomById, readCustomByName, Head, value, fieldsIn}
+use Rattle.format.specs.Payload.{itemsIn, sharedFieldsOf, readSharedFields, sharedItemsOf, readSharedItems, readFields, readItems, front, head}
 use Rattle.format.specs.Reader.{isTyped}
 use Rattle.places.specs.Values.{sortOf}
 use Rattle.spelling.specs.Flawed.{leafTexts, isLow, isHeld, flawedPart}
-use Rattle.spelling.proofs.Tells.{is, Tells, Adds, Keeps, tells-got, tells-bind, tells-raise, tells-make, tells-whole, tells-unless, tells-as, tells-fixed}
+use Rattle.spelling.proofs.Tells.{is, Tells, Adds, Keeps, tells-got, tells-bind, tells-raise, tells-make, tells-whole, tells-unless, tells-as}
+use Rattle.spelling.proofs.Tells.{tells-fixed}
 use Rattle.spelling.proofs.FlawedParts.{leaf-none, leaf-text, leaf-low, leaf-wide, nameFlawed}
 
 -- only an object's fields have names
@@ -60,9 +65,11 @@ module _ (f : Flaw) (shows : is f Long ≡ false) where
       go Cut = record { says = tt }
       go (Whole v n m) = tells-raise f c (Keeps c) (not m) Long _ (tells-got f (c || (is f Long && not m)) (Keeps c) v (drop n s) (rw (shows, or-false c)))
 
-  tells-sized : {A : Type 0} (c : Bool) (P : A → Bool → Type 0) (p : List ℕ → Out A) → ((b : List ℕ) → Tells f c P (p b)) → (s : List ℕ) → Tells f c P (sized p s)
+  tells-sized : {A : Type 0} (c : Bool) (P : A → Bool → Type 0) (p : List ℕ → Out A) → ((b : List ℕ) → Tells f c P (p b)) → (s : List ℕ)
+      → Tells f c P (sized p s)
   tells-sized c P p h s = tells-bind f c (Keeps c) P (readVarUInt s) _ (tells-number c s) λ n r b e.
-      tells-unless f b P (ltb (length r) n) Early _ (tells-whole f b P (p (take n r)) (drop n r) (subst (λ b. Tells f b P (p (take n r))) (sym e) (h (take n r))))
+      tells-unless f b P (ltb (length r) n) Early _
+      (tells-whole f b P (p (take n r)) (drop n r) (subst (λ b. Tells f b P (p (take n r))) (sym e) (h (take n r))))
 
   tells-rest : (c : Bool) (s : List ℕ) → Tells f c (Keeps c) (rest s)
   tells-rest c s = tells-got f c (Keeps c) s [] refl
@@ -91,7 +98,8 @@ module _ (f : Flaw) (shows : is f Long ≡ false) where
     where
       typed : (g : Form) (m : Mark) → isNamed g ≡ false → Tells f c (Adds c (frontFlawed f g)) (bind (readType m s) λ k r. got ([], k) [] r)
       typed g m h =
-          tells-bind f c (Keeps c) _ (readType m s) _ (tells-type c m s) λ k r b e. tells-got f b (Adds c (frontFlawed f g)) ([], k) r (rw h (e ∙ sym (or-false c)))
+          tells-bind f c (Keeps c) _ (readType m s) _ (tells-type c m s) λ k r b e.
+          tells-got f b (Adds c (frontFlawed f g)) ([], k) r (rw h (e ∙ sym (or-false c)))
 
       name : (g : Form) (c d : Bool) (k : Kind) (r : List ℕ) → d ≡ c → isNamed g ≡ true
           → Tells f d (Adds c (frontFlawed f g)) (bind (readName r) λ n q. got (n, k) [] q)
@@ -137,7 +145,8 @@ module _ (f : Flaw) (shows : is f Long ≡ false) where
 
   string-tells : (c : Bool) (s : List ℕ) → Tells f c (HeadTells f String c) (make value (make string (readText s)))
   string-tells c s = tells-make f c (HeadTells f String c) value (make string (readText s)) (tells-make f c _ string (readText s)
-      (tells-as f c (Adds c (λ t. is f NotUtf8 && not (isText t))) _ (readText s) (λ t b e. rw (leaf-text f String (string t) t refl refl refl) e) (tells-text c s)))
+      (tells-as f c (Adds c (λ t. is f NotUtf8 && not (isText t))) _ (readText s)
+      (λ t b e. rw (leaf-text f String (string t) t refl refl refl) e) (tells-text c s)))
 
   by-id-tells : (c : Bool) (s : List ℕ) → Tells f c (HeadTells f CustomById c) (make value (sized readCustomById s))
   by-id-tells c s =
@@ -174,7 +183,8 @@ module _ (f : Flaw) (shows : is f Long ≡ false) where
   unfolding head payload
   tells-head = elim [
     | Null ↦ λ c s. bare Null c null s refl refl refl
-    | Object ↦ λ c s. tells-sized c (HeadTells f Object c) readFields (λ b. tells-got f c (HeadTells f Object c) (fieldsIn Field b) [] (refl, refl, refl, refl)) s
+    | Object ↦ λ c s.
+        tells-sized c (HeadTells f Object c) readFields (λ b. tells-got f c (HeadTells f Object c) (fieldsIn Field b) [] (refl, refl, refl, refl)) s
     | UniformObject ↦ λ c s. tells-sized c (HeadTells f UniformObject c) readSharedFields (shared-fields-tells c) s
     | Array ↦ λ c s. tells-sized c (HeadTells f Array c) readItems
         (λ b. tells-bind f c (Keeps c) _ (readVarUInt b) _ (tells-number c b) λ n r d e. tells-got f d (HeadTells f Array c) (itemsIn Item n r) []

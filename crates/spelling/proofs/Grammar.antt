@@ -96,7 +96,9 @@ module _ {C : List Flaw → Type 0} (clean : Clean C) where
   part-make g p S h = record {
     to = λ s b fs y e c. bind-got (p s) _ e λ a es q gs i j ef.
         (a, cc, h .to s a es y (let z : q ≡ [] = cc in subst (λ q. p s ≡ got a es q) z i) (clean .left es gs (subst C ef c)));
-    from = λ b w x. let i = h .from (x .0) w (x .2) in (i .0 ++ [], clean .both (i .0) [] (i .1) (clean .none), rw (i .2, x .1) (with-put (i .0) [] (g (x .0)) []));
+    from = λ b w x.
+        let i = h .from (x .0) w (x .2) in
+        (i .0 ++ [], clean .both (i .0) [] (i .1) (clean .none), rw (i .2, x .1) (with-put (i .0) [] (g (x .0)) []));
   }
 
   -- a flaw other than `long` changes nothing
@@ -119,8 +121,11 @@ module _ {C : List Flaw → Type 0} (clean : Clean C) where
   front-fixed n =
       record {
         to = λ s a fs r y h c. go s a fs r (ltb (length s) n) refl h;
-        from = λ a w x r.
-            ([], clean .none, rw (x .0, le-ltb (length (w ++ r)) n (rw (length-append w r) (omega (arith, x .1))), take-at w r n (x .1), drop-at w r n (x .1)));
+        from = λ a w x r. (
+          [],
+          clean .none,
+          rw (x .0, le-ltb (length (w ++ r)) n (rw (length-append w r) (omega (arith, x .1))), take-at w r n (x .1), drop-at w r n (x .1)),
+        );
       }
     where
       go : (s a : List ℕ) (fs : List Flaw) (r : List ℕ) (x : Bool) → ltb (length s) n ≡ x → cond x (fault Early) (got (take n s) [] (drop n s)) ≡ got a fs r

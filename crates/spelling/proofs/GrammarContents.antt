@@ -24,7 +24,8 @@ use Rattle.spelling.proofs.GrammarRuns.{front-many, fill-to, fill-from}
 module _ {C : List Flaw → Type 0} (clean : Clean C) {Num : ℕ → List ℕ → Type 0} (num : Front C readVarUInt Num) {X : Type 0} (p : Reader X) where
   pub leaf-node : (q : List ℕ → Out Leaf) (L : Leaf → List ℕ → Type 0) → Front C q L
       → Front C (λ s. bind (make value (q s)) λ h r. whole (contents p h) r) (Made atom L)
-  leaf-node q L h = front-as clean _ (Behind (Made value L) (λ h t w. (w ≡ []) × (gs : List Flaw) × C gs × (contents p h ≡ got t gs []))) (Made atom L) out back
+  leaf-node q L h =
+      front-as clean _ (Behind (Made value L) (λ h t w. (w ≡ []) × (gs : List Flaw) × C gs × (contents p h ≡ got t gs []))) (Made atom L) out back
       (front-bind clean (λ s. make value (q s)) (λ h r. whole (contents p h) r) _ _ (front-make clean value q L h) (λ h. front-whole clean (contents p h)))
     where
       out : (t : Node (Standing X)) (w : List ℕ) → Bytes w
@@ -85,7 +86,8 @@ module _ {C : List Flaw → Type 0} (clean : Clean C) {Num : ℕ → List ℕ �
           put clean (many (p g) n b) (asArray g) (x .0) (array (map (λ x. x .1) (x .0))) t (m .0) (m .1) (o .0) (o .1) e (o .2) (x .1);
     }
 
-    pub fields-part : (g : Form) → ((x : Named (Standing X)) (w : List ℕ) → S g x w → 1 ≤ length w) → Part C (λ b. contents p (fieldsIn g b)) (FieldsSpell Num S g)
+    pub fields-part : (g : Form) → ((x : Named (Standing X)) (w : List ℕ) → S g x w → 1 ≤ length w)
+        → Part C (λ b. contents p (fieldsIn g b)) (FieldsSpell Num S g)
     fields-part g some = record {
       to = λ b t fs y e c. bind-got (fill (p g) (length b) b) (asObject g) e λ xs es q gs i j ef. raise-got (isTyped g && isUniform (kindsIn xs)) NotUniform
           (raise (twins (namesIn xs)) Twin (got (object xs) [] q)) j λ hs k. raise-got (twins (namesIn xs)) Twin (got (object xs) [] q) k λ hs′ k′.

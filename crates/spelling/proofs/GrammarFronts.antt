@@ -27,7 +27,8 @@ module _ {C : List Flaw → Type 0} (clean : Clean C) where
   pub front-type : (m : Mark) → Front C (readType m) (λ k w. w ≡ typeByte m k ∷ [])
   front-type m = record { to = to; from = λ k w e r. ([], clean .none, rw (e, kind-rt m k)) }
     where
-      to : (s : List ℕ) (k : Kind) (fs : List Flaw) (r : List ℕ) → Bytes s → readType m s ≡ got k fs r → C fs → (w : List ℕ) × (s ≡ w ++ r) × (w ≡ typeByte m k ∷ [])
+      to : (s : List ℕ) (k : Kind) (fs : List Flaw) (r : List ℕ) → Bytes s → readType m s ≡ got k fs r → C fs
+          → (w : List ℕ) × (s ≡ w ++ r) × (w ≡ typeByte m k ∷ [])
       to [] k fs r y e c = never e
       to (b ∷ s) k fs r y e c = go (kindAt m b) refl e
         where

@@ -11,7 +11,9 @@ use Rattle.number.specs.BigEndian.{Bytes, fromBytes}
 use Rattle.number.specs.Signed.{fromTwos}
 use Rattle.float.specs.Rule.{holds}
 use Rattle.format.specs.declared.Kind.{Kind}
-use Rattle.format.specs.declared.Kind.the-variants.{Null, Object, UniformObject, Array, UniformArray, Binary, String, IntegerPositive, IntegerNegative, Float32, Float64, False, True, ObjectAttachment, BinaryAttachment, Hash, Uuid, DateTime, TimeSpan, ObjectId, CustomById, CustomByName}
+use Rattle.format.specs.declared.Kind.the-variants.{Null, Object, UniformObject, Array, UniformArray, Binary, String, IntegerPositive, IntegerNegative}
+use Rattle.format.specs.declared.Kind.the-variants.{Float32, Float64, False, True, ObjectAttachment, BinaryAttachment, Hash, Uuid, DateTime, TimeSpan}
+use Rattle.format.specs.declared.Kind.the-variants.{ObjectId, CustomById, CustomByName}
 use Rattle.format.specs.declared.Known.{Known}
 use Rattle.format.specs.declared.Known.the-variants.{Unknown, Is}
 use Rattle.format.specs.declared.Mark.the-variants.{SharedByFields, SharedByItems}
@@ -23,16 +25,20 @@ use Rattle.format.specs.declared.Flaw.{Flaw}
 use Rattle.format.specs.declared.Flaw.the-variants.{Low, Wide}
 use Rattle.format.specs.Parse.{Out, fault, got, bind, make, whole, readVarUInt, fixed, sized, rest}
 use Rattle.format.specs.Names.{readText}
-use Rattle.format.specs.Tree.{Leaf, null, bool, integer, float, binary, string, objectAttachment, binaryAttachment, hash, uuid, objectId, dateTime, timeSpan, customById, customByName, Node, atom}
-use Rattle.format.specs.Payload.{value, payload, float32, float64, readNegative, readFloat64, readCustomById, readCustomByName, Head, fieldsIn, itemsIn, sharedFieldsOf, readSharedFields, sharedItemsOf, readSharedItems, readFields, readItems, front, head}
+use Rattle.format.specs.Tree.{Leaf, null, bool, integer, float, binary, string, objectAttachment, binaryAttachment, hash, uuid, objectId, dateTime, timeSpan}
+use Rattle.format.specs.Tree.{customById, customByName, Node, atom}
+use Rattle.format.specs.Payload.{value, payload, float32, float64, readNegative, readFloat64, readCustomById, readCustomByName, Head, fieldsIn, itemsIn}
+use Rattle.format.specs.Payload.{sharedFieldsOf, readSharedFields, sharedItemsOf, readSharedItems, readFields, readItems, front, head}
 use Rattle.format.specs.Reader.{Standing, Named, Layout, Reader, contents, readNode, readField, read}
-use Rattle.spelling.specs.Spells.{Bare, All-of, Exactly, Made, Behind, Sized, FrontSpells, FieldsSpell, ItemsSpell, SharedFieldsSpell, SharedItemsSpell, NodeSpells, FieldSpells, Spells}
+use Rattle.spelling.specs.Spells.{Bare, All-of, Exactly, Made, Behind, Sized, FrontSpells, FieldsSpell, ItemsSpell, SharedFieldsSpell, SharedItemsSpell}
+use Rattle.spelling.specs.Spells.{NodeSpells, FieldSpells, Spells}
 use Rattle.format.proofs.KindLaws.{kind-rt, kind-inv}
 use Rattle.spelling.proofs.BareKinds.{not-bare-exactly}
 use Rattle.format.proofs.Back.{never}
 use Rattle.format.proofs.Lists.{bytes-right}
 use Rattle.format.proofs.Local.{with-put, bind-got}
-use Rattle.spelling.proofs.Grammar.{Clean, Front, front-as, front-bind, part-bind, front-got, part-rest, front-make, part-make, front-flag, front-fixed, front-sized}
+use Rattle.spelling.proofs.Grammar.{Clean, Front, front-as, front-bind, part-bind, front-got, part-rest, front-make, part-make, front-flag, front-fixed}
+use Rattle.spelling.proofs.Grammar.{front-sized}
 use Rattle.spelling.proofs.GrammarFronts.{front-text, front-front}
 use Rattle.spelling.proofs.GrammarContents.{leaf-node, node-sized, items-part, fields-part}
 
@@ -143,7 +149,8 @@ module _ {C : List Flaw → Type 0} (clean : Clean C) {Num : ℕ → List ℕ �
           i .0,
           clean .both (m .0) [] (m .1) (clean .none),
           i .1,
-          rw (x .3, m .2, shared-items-from (x .0) (y .0) (y .1) (x .2) (y .2) (y .3) (y .4)) (with-put (m .0) [] (itemsIn (SharedItem (y .0)) (x .0) (y .1)) []),
+          rw (x .3, m .2, shared-items-from (x .0) (y .0) (y .1) (x .2) (y .2) (y .3) (y .4))
+              (with-put (m .0) [] (itemsIn (SharedItem (y .0)) (x .0) (y .1)) []),
           i .2,
         ))
 
@@ -162,9 +169,11 @@ module _ {C : List Flaw → Type 0} (clean : Clean C) {Num : ℕ → List ℕ �
         (λ n w y i. (i .2 .0, i .1 ∙ ap atom (i .2 .1), i .2 .2)) (λ n w i. (g (i .0), i .1, (i .0, refl, i .2)))
         (leaf-node clean num p q (Made g T) h)
 
-    custom-leaf : {B : Type 0} (g : B → List ℕ → Leaf) (q : List ℕ → Out Leaf) (T : B → List ℕ → Type 0) → Front C q (Sized Num (Behind T (λ i. Made (g i) All-of)))
+    custom-leaf : {B : Type 0} (g : B → List ℕ → Leaf) (q : List ℕ → Out Leaf) (T : B → List ℕ → Type 0)
+        → Front C q (Sized Num (Behind T (λ i. Made (g i) All-of)))
         → Front C (λ s. bind (make value (q s)) λ h r. whole (contents p h) r) (Sized Num (Behind T (λ i. Made (λ b. atom (g i b)) All-of)))
-    custom-leaf g q T h = front-as clean _ (Made atom (Sized Num (Behind T (λ i. Made (g i) All-of)))) (Sized Num (Behind T (λ i. Made (λ b. atom (g i b)) All-of)))
+    custom-leaf g q T h =
+        front-as clean _ (Made atom (Sized Num (Behind T (λ i. Made (g i) All-of)))) (Sized Num (Behind T (λ i. Made (λ b. atom (g i b)) All-of)))
         (λ n w y i. let j = i .2 in let k = j .4 in (j .0, j .1, j .2, j .3, (k .0, k .1, k .2, k .3, k .4, (k .5 .0, i .1 ∙ ap atom (k .5 .1), k .5 .2))))
         (λ n w j. let k = j .4 in (g (k .0) (k .5 .0), k .5 .1, (j .0, j .1, j .2, j .3, (k .0, k .1, k .2, k .3, k .4, (k .5 .0, refl, k .5 .2)))))
         (leaf-node clean num p q (Sized Num (Behind T (λ i. Made (g i) All-of))) h)
@@ -209,7 +218,8 @@ module _ {C : List Flaw → Type 0} (clean : Clean C) {Num : ℕ → List ℕ �
     ]
 
     front-field : (g : Form) → Front C (readField p g) (FieldSpells Num S g)
-    front-field g = front-as clean (readField p g) (Behind (FrontSpells Num g) (λ x. Made (λ t. (x .0, (x .1, t))) (NodeSpells Num S (x .1)))) (FieldSpells Num S g)
+    front-field g =
+        front-as clean (readField p g) (Behind (FrontSpells Num g) (λ x. Made (λ t. (x .0, (x .1, t))) (NodeSpells Num S (x .1)))) (FieldSpells Num S g)
         (λ y w _ i. subst (λ y. FieldSpells Num S g y w) (sym (i .5 .1)) (i .1, i .2, i .3, i .4, i .5 .2))
         (λ y w i. ((y .0, y .1 .0), i .0, i .1, i .2, i .3, (y .1 .1, refl, i .4)))
         (front-bind clean (front g) (λ x r. make (λ t. (x .0, (x .1, t))) (readNode p (x .1) r)) _ _ (front-front clean num g)
@@ -224,7 +234,8 @@ module _ {C : List Flaw → Type 0} (clean : Clean C) {Num : ℕ → List ℕ �
   module _ (num-some : (v : ℕ) (u : List ℕ) → Num v u → 1 ≤ length u) where
     pub some-shared : (d : ℕ) (k : Kind) (x : Named (Standing (Layout d))) (w : List ℕ) → Spells Num d (SharedField k) x w → 1 ≤ length w
     some-shared zero k x w i = absurd i
-    some-shared (suc d) k x w i = omega (arith, simp length-append at (ap length (i .2)), simp length-append at (ap length (i .3 .1 .2)), num-some _ _ (i .3 .1 .3))
+    some-shared (suc d) k x w i =
+        omega (arith, simp length-append at (ap length (i .2)), simp length-append at (ap length (i .3 .1 .2)), num-some _ _ (i .3 .1 .3))
 
     pub read-spells : (d : ℕ) (g : Form) → Front C (read d g) (Spells Num d g)
     unfolding read

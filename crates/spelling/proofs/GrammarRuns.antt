@@ -26,7 +26,8 @@ module _ {C : List Flaw → Type 0} (clean : Clean C) {A : Type 0} (p : List ℕ
   front-many (suc n) = front-as clean (many p (suc n)) (Behind S (λ x. Made (λ xs. x ∷ xs) (λ xs w. (length xs ≡ n) × Run S xs w))) _ out back
       (front-bind clean p (λ x r. make (λ xs. x ∷ xs) (many p n r)) S _ h (λ x. front-make clean (λ xs. x ∷ xs) (many p n) _ (front-many n)))
     where
-      out : (ys : List A) (w : List ℕ) → Bytes w → Behind S (λ x. Made (λ xs. x ∷ xs) (λ xs w. (length xs ≡ n) × Run S xs w)) ys w → (length ys ≡ suc n) × Run S ys w
+      out : (ys : List A) (w : List ℕ) → Bytes w → Behind S (λ x. Made (λ xs. x ∷ xs) (λ xs w. (length xs ≡ n) × Run S xs w)) ys w
+          → (length ys ≡ suc n) × Run S ys w
       out ys w y i = subst (λ ys. (length ys ≡ suc n) × Run S ys w) (sym (i .5 .1)) (ap suc (i .5 .2 .0), (i .1, i .2, i .3, i .4, i .5 .2 .1))
 
       back : (ys : List A) (w : List ℕ) → (length ys ≡ suc n) × Run S ys w → Behind S (λ x. Made (λ xs. x ∷ xs) (λ xs w. (length xs ≡ n) × Run S xs w)) ys w
@@ -49,8 +50,8 @@ module _ {C : List Flaw → Type 0} (clean : Clean C) {A : Type 0} (p : List ℕ
   fill-more n [] l = absurd (omega arith)
   fill-more n (b ∷ s) l = refl
 
-  fill-step : (n : ℕ) (x : A) (xs : List A) (s u t : List ℕ) (es gs : List Flaw) → s ≡ u ++ t → p (u ++ t) ≡ got x es t → fill p n t ≡ got xs gs [] → 1 ≤ length s
-      → fill p (suc n) s ≡ got (x ∷ xs) (es ++ (gs ++ [])) []
+  fill-step : (n : ℕ) (x : A) (xs : List A) (s u t : List ℕ) (es gs : List Flaw) → s ≡ u ++ t → p (u ++ t) ≡ got x es t
+      → fill p n t ≡ got xs gs [] → 1 ≤ length s → fill p (suc n) s ≡ got (x ∷ xs) (es ++ (gs ++ [])) []
   fill-step n x xs s u t es gs e i j l = fill-more n s l ∙ rw (e, i, j, with-put gs [] (x ∷ xs) []) (with-put es (gs ++ []) (x ∷ xs) [])
 
   pub fill-none : (n : ℕ) → fill p n [] ≡ got [] [] []

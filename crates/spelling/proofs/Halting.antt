@@ -69,7 +69,8 @@ pub halt-as : {A : Type 0} (p : List ℕ → Out A) (H J : Stop → List ℕ →
     → ((k : Stop) (s : List ℕ) → J k s → H k s) → Halt p H → Halt p J
 halt-as p H J f g h = record { to = λ s k y e. f k s y (h .to s k y e); from = λ k s i. h .from k s (g k s i) }
 
-pub halt-bind : {A B : Type 0} (p : List ℕ → Out A) (g : A → List ℕ → Out B) (S : A → List ℕ → Type 0) (H : Stop → List ℕ → Type 0) (K : A → Stop → List ℕ → Type 0)
+pub halt-bind : {A B : Type 0} (p : List ℕ → Out A) (g : A → List ℕ → Out B) (S : A → List ℕ → Type 0) (H : Stop → List ℕ → Type 0)
+    (K : A → Stop → List ℕ → Type 0)
     → Front Any p S → Halt p H → ((a : A) → Halt (g a) (K a)) → Halt (λ s. bind (p s) g) (OrBehind H S K)
 halt-bind p g S H K f h i = record {
   to = λ s k y e. bind-fault (p s) g e (λ j. inl (h .to s k y j))
@@ -146,6 +147,8 @@ module _ (num : Halt readVarUInt NumberHalts) {A : Type 0} (p : List ℕ → Out
   pub halt-sized : Halt (sized p) (SizedHalts H)
   halt-sized = record {
     to = λ s k y e. bind-fault (readVarUInt s) _ e (λ i. let j = num .to s k y i in inl (j .0, inl (j .1)))
-        (λ n fs q i j. let w = any-number .to s n fs q y i tt in sized-to s k n (w .0) q (w .1) (bytes-right _ (w .0) q y (w .1)) (w .2) (ltb (length q) n) refl j);
+        (λ n fs q i j.
+        let w = any-number .to s n fs q y i tt in
+        sized-to s k n (w .0) q (w .1) (bytes-right _ (w .0) q y (w .1)) (w .2) (ltb (length q) n) refl j);
     from = sized-from;
   }

@@ -12,7 +12,9 @@ use Rattle.number.specs.BigEndian.{Bytes, fromBytes}
 use Rattle.number.specs.Signed.{fromTwos}
 use Rattle.float.specs.Rule.{holds}
 use Rattle.format.specs.declared.Kind.{Kind}
-use Rattle.format.specs.declared.Kind.the-variants.{Null, Object, UniformObject, Array, UniformArray, Binary, String, IntegerPositive, IntegerNegative, Float32, Float64, False, True, ObjectAttachment, BinaryAttachment, Hash, Uuid, DateTime, TimeSpan, ObjectId, CustomById, CustomByName}
+use Rattle.format.specs.declared.Kind.the-variants.{Null, Object, UniformObject, Array, UniformArray, Binary, String, IntegerPositive, IntegerNegative}
+use Rattle.format.specs.declared.Kind.the-variants.{Float32, Float64, False, True, ObjectAttachment, BinaryAttachment, Hash, Uuid, DateTime, TimeSpan}
+use Rattle.format.specs.declared.Kind.the-variants.{ObjectId, CustomById, CustomByName}
 use Rattle.format.specs.declared.Known.{Known}
 use Rattle.format.specs.declared.Known.the-variants.{Unknown, Is}
 use Rattle.format.specs.declared.Mark.the-variants.{SharedByFields, SharedByItems}
@@ -25,11 +27,14 @@ use Rattle.format.specs.declared.Flaw.{Flaw}
 use Rattle.format.specs.declared.Flaw.the-variants.{Low, Wide}
 use Rattle.format.specs.Parse.{Out, fault, got, bind, make, whole, readVarUInt, fixed, sized, rest}
 use Rattle.format.specs.Names.{readText}
-use Rattle.format.specs.Tree.{Leaf, null, bool, integer, float, binary, string, objectAttachment, binaryAttachment, hash, uuid, objectId, dateTime, timeSpan, customById, customByName}
-use Rattle.format.specs.Payload.{payload, float32, float64, readNegative, readFloat64, readCustomById, readCustomByName, Head, value, itemsIn, sharedFieldsOf, readSharedFields, sharedItemsOf, readSharedItems, readFields, readItems, front, head}
+use Rattle.format.specs.Tree.{Leaf, null, bool, integer, float, binary, string, objectAttachment, binaryAttachment, hash, uuid, objectId, dateTime, timeSpan}
+use Rattle.format.specs.Tree.{customById, customByName}
+use Rattle.format.specs.Payload.{payload, float32, float64, readNegative, readFloat64, readCustomById, readCustomByName, Head, value, itemsIn, sharedFieldsOf}
+use Rattle.format.specs.Payload.{readSharedFields, sharedItemsOf, readSharedItems, readFields, readItems, front, head}
 use Rattle.format.specs.Reader.{Standing, Named, Reader, contents, readNode, readField, read}
 use Rattle.spelling.specs.Spells.{anyForm, Bare, FrontSpells, Spells}
-use Rattle.spelling.specs.Halts.{NumberHalts, BytesHalt, TextHalts, SizedHalts, CountedHalts, FrontHalts, FieldsHalt, ItemsHalt, SharedFieldsHalt, SharedItemsHalt, NodeHalts, FieldHalts, HaltsAt}
+use Rattle.spelling.specs.Halts.{NumberHalts, BytesHalt, TextHalts, SizedHalts, CountedHalts, FrontHalts, FieldsHalt, ItemsHalt, SharedFieldsHalt}
+use Rattle.spelling.specs.Halts.{SharedItemsHalt, NodeHalts, FieldHalts, HaltsAt}
 use Rattle.format.proofs.KindLaws.{kind-rt, kind-inv}
 use Rattle.spelling.proofs.BareKinds.{bare-exactly, not-bare-exactly}
 use Rattle.format.proofs.Back.{never}

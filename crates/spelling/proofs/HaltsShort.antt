@@ -6,7 +6,9 @@ use mathlib.Core.Logic.{_⊎_, inl, inr}
 use mathlib.Core.List.{List, []}
 use lib.ListN.{length}
 use Rattle.format.specs.declared.Kind.{Kind}
-use Rattle.format.specs.declared.Kind.the-variants.{Null, Object, UniformObject, Array, UniformArray, Binary, String, IntegerPositive, IntegerNegative, Float32, Float64, False, True, ObjectAttachment, BinaryAttachment, Hash, Uuid, DateTime, TimeSpan, ObjectId, CustomById, CustomByName}
+use Rattle.format.specs.declared.Kind.the-variants.{Null, Object, UniformObject, Array, UniformArray, Binary, String, IntegerPositive, IntegerNegative}
+use Rattle.format.specs.declared.Kind.the-variants.{Float32, Float64, False, True, ObjectAttachment, BinaryAttachment, Hash, Uuid, DateTime, TimeSpan}
+use Rattle.format.specs.declared.Kind.the-variants.{ObjectId, CustomById, CustomByName}
 use Rattle.format.specs.declared.Mark.{Mark}
 use Rattle.format.specs.declared.Form.{Form}
 use Rattle.format.specs.declared.Form.the-variants.{Top, Field, Item, SharedField, SharedItem}
@@ -14,7 +16,8 @@ use Rattle.format.specs.declared.Stop.{Stop}
 use Rattle.format.specs.declared.Stop.the-variants.{Early, Unknown, TooLong, BadUniform}
 use Rattle.format.specs.Reader.{Standing, Named}
 use Rattle.spelling.specs.Spells.{anyForm, Bare, Spells}
-use Rattle.spelling.specs.Halts.{NumberHalts, TextHalts, SizedHalts, CountedHalts, TypeHalts, FrontHalts, FieldsHalt, ItemsHalt, SharedFieldsHalt, SharedItemsHalt, NodeHalts, HaltsAt}
+use Rattle.spelling.specs.Halts.{NumberHalts, TextHalts, SizedHalts, CountedHalts, TypeHalts, FrontHalts, FieldsHalt, ItemsHalt, SharedFieldsHalt}
+use Rattle.spelling.specs.Halts.{SharedItemsHalt, NodeHalts, HaltsAt}
 use Rattle.format.specs.declared.Mark.the-variants.{OfTop, OfField, OfItem, SharedByFields, SharedByItems}
 
 late : TooLong ≡ Early → ⊥

@@ -77,13 +77,21 @@ counted =
           0x08 ∷ 0x01 ∷ 0x02 ∷ 0x03 ∷ [],
           refl,
           small 3 (omega arith) refl,
-          (IntegerPositive, 0x01 ∷ 0x02 ∷ 0x03 ∷ [], refl, omega arith, not-bare-exactly IntegerPositive .0 refl, (at 1 ∷ at 2 ∷ at 3 ∷ [], refl, refl, items)),
+          (
+            IntegerPositive,
+            0x01 ∷ 0x02 ∷ 0x03 ∷ [],
+            refl,
+            omega arith,
+            not-bare-exactly IntegerPositive .0 refl,
+            (at 1 ∷ at 2 ∷ at 3 ∷ [], refl, refl, items),
+          ),
         ),
       ),
     )
 
 -- 02 with the String "w" under the name "a"
-pub named : Spells anyForm 2 Top ([], (Object, object ((0x61 ∷ [], (String, atom (string (0x77 ∷ [])))) ∷ []))) (0x02 ∷ 0x05 ∷ 0xc7 ∷ 0x01 ∷ 0x61 ∷ 0x01 ∷ 0x77 ∷ [])
+pub named : Spells anyForm 2 Top ([], (Object, object ((0x61 ∷ [], (String, atom (string (0x77 ∷ [])))) ∷ [])))
+    (0x02 ∷ 0x05 ∷ 0xc7 ∷ 0x01 ∷ 0x61 ∷ 0x01 ∷ 0x77 ∷ [])
 named = (
   0x02 ∷ [],
   0x05 ∷ 0xc7 ∷ 0x01 ∷ 0x61 ∷ 0x01 ∷ 0x77 ∷ [],

@@ -13,7 +13,8 @@ use Rattle.number.specs.BigEndian.{Bytes}
 use Rattle.number.specs.VarUInt.{reached, bounds, bound, varUInt, form, encoded}
 use Rattle.number.specs.declared.VarUInt.{VarUInt}
 use Rattle.number.specs.declared.VarUInt.the-variants.{Cut, Whole}
-use Rattle.number.proofs.VarUIntLaws.{limit, limit-whole, needed-at, form-reads, form-length, measured, encoded-at, encoded-bytes, var-rt, var-form, var-range, var-local, var-inv}
+use Rattle.number.proofs.VarUIntLaws.{limit, limit-whole, needed-at, form-reads, form-length, measured, encoded-at, encoded-bytes, var-rt, var-form, var-range}
+use Rattle.number.proofs.VarUIntLaws.{var-local, var-inv}
 use Rattle.format.specs.declared.Flaw.{Flaw}
 use Rattle.format.specs.declared.Flaw.the-variants.{Twin, Blank, Long, Low, Wide, NotUtf8, NotUniform}
 use Rattle.format.specs.Parse.{got, raise, number, readVarUInt}
@@ -141,7 +142,8 @@ pub any-number : Front Any readVarUInt anyForm
 any-number = record {
   to = λ s v fs r y e c. number-to s v fs r e λ w m i j k. let f = var-form w v (length w) m (bytes-left _ w r y i) j in
       (w, i, (f .0, f .1, f .2, sym (take-length w) ∙ f .3));
-  from = λ v w x r. go v w (leb (bound (x .0)) v) (rw (x .3, form-length (x .0) v) (rw (append-nil (form (x .0) v)) at (form-reads (x .0) v [] (x .1) (x .2)))) r;
+  from =
+      λ v w x r. go v w (leb (bound (x .0)) v) (rw (x .3, form-length (x .0) v) (rw (append-nil (form (x .0) v)) at (form-reads (x .0) v [] (x .1) (x .2)))) r;
 }
   where
     go : (v : ℕ) (w : List ℕ) (m : Bool) → varUInt w ≡ Whole v (length w) m → (r : List ℕ) → (fs : List Flaw) × Any fs × (readVarUInt (w ++ r) ≡ got v fs r)

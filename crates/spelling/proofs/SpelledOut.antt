@@ -90,5 +90,6 @@ met-exactly = exactly.met-exactly
 
 -- 64 was not met exactly if every VarUInt is in its minimal form
 pub long-exactly : (payload : List ℕ) → Bytes payload → (shown : ShownPayload payload)
-    → (has Long (shown .flaws) ≡ false) ↔ ((w : List ℕ) × (payload ≡ w ++ shown .left) × Spells minimalForm depthLimit Top ([], (shown .kind, shown .layout)) w)
+    → (has Long (shown .flaws) ≡ false)
+    ↔ ((w : List ℕ) × (payload ≡ w ++ shown .left) × Spells minimalForm depthLimit Top ([], (shown .kind, shown .layout)) w)
 long-exactly = spelled.long-exactly

@@ -39,7 +39,8 @@ tells-fault f c P k = record { says = tt }
 pub tells-got : {A : Type 0} (f : Flaw) (c : Bool) (P : A → Bool → Type 0) (a : A) (r : List ℕ) → P a c → Tells f c P (got a [] r)
 tells-got f c P a r h = record { says = subst (P a) (sym (or-false c)) h }
 
-tells-with : {A : Type 0} (f : Flaw) (c : Bool) (P : A → Bool → Type 0) (fs : List Flaw) (o : Out A) → Tells f (c || has f fs) P o → Tells f c P (withFlaws fs o)
+tells-with : {A : Type 0} (f : Flaw) (c : Bool) (P : A → Bool → Type 0) (fs : List Flaw) (o : Out A) → Tells f (c || has f fs) P o
+    → Tells f c P (withFlaws fs o)
 tells-with f c P [] o h = subst (λ b. Tells f b P o) (or-false c) h
 tells-with f c P (g ∷ fs) (fault k) h = record { says = tt }
 tells-with f c P (g ∷ fs) (got a gs r) h =
@@ -67,7 +68,8 @@ tells-whole f c P (fault k) r h = record { says = tt }
 tells-whole f c P (got a fs []) r h = record { says = h .says }
 tells-whole f c P (got a fs (x ∷ xs)) r h = record { says = tt }
 
-pub tells-unless : {A : Type 0} (f : Flaw) (c : Bool) (P : A → Bool → Type 0) (x : Bool) (k : Stop) (o : Out A) → Tells f c P o → Tells f c P (cond x (fault k) o)
+pub tells-unless : {A : Type 0} (f : Flaw) (c : Bool) (P : A → Bool → Type 0) (x : Bool) (k : Stop) (o : Out A) → Tells f c P o
+    → Tells f c P (cond x (fault k) o)
 tells-unless f c P true k o h = record { says = tt }
 tells-unless f c P false k o h = h
 

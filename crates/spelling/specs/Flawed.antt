@@ -13,7 +13,8 @@ use Rattle.format.specs.Kinds.{same, any, isUniform, isUniformArray}
 use Rattle.format.specs.declared.Flaw.{Flaw}
 use Rattle.format.specs.declared.Flaw.the-variants.{Twin, Blank, Long, Low, Wide, NotUtf8, NotUniform}
 use Rattle.format.specs.Names.{isEmpty, twins}
-use Rattle.format.specs.Tree.{Leaf, null, bool, integer, float, binary, string, objectAttachment, binaryAttachment, hash, uuid, objectId, dateTime, timeSpan, customById, customByName, Node, atom, array, object, mapNode}
+use Rattle.format.specs.Tree.{Leaf, null, bool, integer, float, binary, string, objectAttachment, binaryAttachment, hash, uuid, objectId, dateTime, timeSpan}
+use Rattle.format.specs.Tree.{customById, customByName, Node, atom, array, object, mapNode}
 use Rattle.format.specs.Reader.{Standing, Layout}
 use Rattle.format.specs.Mask.{flawValue, modeOf, isAsked}
 use Rattle.places.specs.Values.{Sort, whole, real, time, other, sortOf, floatBits}

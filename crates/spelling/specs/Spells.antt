@@ -11,12 +11,15 @@ use Rattle.number.specs.BigEndian.{fromBytes}
 use Rattle.number.specs.Signed.{fromTwos}
 use Rattle.number.specs.VarUInt.{bounds, form}
 use Rattle.format.specs.declared.Kind.{Kind}
-use Rattle.format.specs.declared.Kind.the-variants.{Null, Object, UniformObject, Array, UniformArray, Binary, String, IntegerPositive, IntegerNegative, Float32, Float64, False, True, ObjectAttachment, BinaryAttachment, Hash, Uuid, DateTime, TimeSpan, ObjectId, CustomById, CustomByName}
+use Rattle.format.specs.declared.Kind.the-variants.{Null, Object, UniformObject, Array, UniformArray, Binary, String, IntegerPositive, IntegerNegative}
+use Rattle.format.specs.declared.Kind.the-variants.{Float32, Float64, False, True, ObjectAttachment, BinaryAttachment, Hash, Uuid, DateTime, TimeSpan}
+use Rattle.format.specs.declared.Kind.the-variants.{ObjectId, CustomById, CustomByName}
 use Rattle.format.specs.declared.Mark.the-variants.{OfTop, OfField, OfItem, SharedByFields, SharedByItems}
 use Rattle.format.specs.declared.Form.{Form}
 use Rattle.format.specs.declared.Form.the-variants.{Top, Field, Item, SharedField, SharedItem}
 use Rattle.format.specs.Kinds.{typeByte}
-use Rattle.format.specs.Tree.{null, bool, integer, float, binary, string, objectAttachment, binaryAttachment, hash, uuid, objectId, dateTime, timeSpan, customById, customByName, Node, atom, array, object}
+use Rattle.format.specs.Tree.{null, bool, integer, float, binary, string, objectAttachment, binaryAttachment, hash, uuid, objectId, dateTime, timeSpan}
+use Rattle.format.specs.Tree.{customById, customByName, Node, atom, array, object}
 use Rattle.format.specs.Payload.{float32, float64}
 use Rattle.format.specs.Reader.{Standing, Named, Layout}
 

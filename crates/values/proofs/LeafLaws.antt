@@ -104,7 +104,8 @@ leaf-value IntegerNegative s {v} h = bind-got (bind (readVarUInt s) λ m r. rais
 leaf-value Float32 s h = made (λ b. float (float32 (fromBytes b))) (fixed 4 s) (float32In (fixed32 s)) h λ a gs q e.
     let w = fixed-is 4 s e in rw (w .0, w .1, bits32 (fromBytes a))
 leaf-value Float64 s {v} h = bind-got (bind (fixed 8 s) λ b r. raise (holds (fromBytes b)) Wide (got (float (float64 (fromBytes b))) [] r)) _ h
-    λ u es q gs e i _. bind-got (fixed 8 s) _ e λ b es′ q′ gs′ e′ i′ _. raise-got (holds (fromBytes b)) Wide (got (float (float64 (fromBytes b))) [] q′) i′ λ _ j.
+    λ u es q gs e i _. bind-got (fixed 8 s) _ e λ b es′ q′ gs′ e′ i′ _.
+    raise-got (holds (fromBytes b)) Wide (got (float (float64 (fromBytes b))) [] q′) i′ λ _ j.
     let w = fixed-is 8 s e′ in
     let z : float (float64 (fromBytes b)) ≡ v = cc in
     subst (Shows (float64In (fixed64 s))) z (rw (w .0, w .1, bits64 (fromBytes b)))

@@ -26,8 +26,16 @@ ajuqvane-write-spec =
     (λ c. search needs)
     (λ c. search needs)
     (λ c. search needs)
-    (λ c. sent-is (c .before .before .before .before .before .before .before .before .before .before .before .before .before .before .before .args .list .now) _ _ (c .before .before .before .before .before .before .before .before .before .before .before .before .before .before .before .args .answer .now) (c .before .before .before .before .before .before .before .before .before .before .if1 .left) _ _ _ (c .before .before .before .before .before .before .before .write .ensures) _ (c .before .length .given .1))
+    (λ c. sent-is (c .before .before .before .before .before .before .before .before .before .before .before .before .before .before .before .args .list .now)
+    _ _ (c .before .before .before .before .before .before .before .before .before .before .before .before .before .before .before .args .answer .now)
+    (c .before .before .before .before .before .before .before .before .before .before .if1 .left) _ _ _
+    (c .before .before .before .before .before .before .before .write .ensures) _ (c .before .length .given .1))
     (λ c. search needs)
     (λ c. search needs)
     (λ c. search needs)
-    (λ c. sent-refused (c .before .before .before .before .before .before .before .before .before .before .before .before .before .before .before .before .args .list .now) _ _ (c .before .before .before .before .before .before .before .before .before .before .before .before .before .before .before .before .args .answer .now) (c .before .before .before .before .before .before .before .before .before .before .before .if1 .left) _ _ _ (c .before .before .before .before .before .before .before .before .write .ensures) _ _ (c .before .before .refusal .given .1) _ (c .refusal-number .ensures)))
+    (λ c. sent-refused
+    (c .before .before .before .before .before .before .before .before .before .before .before .before .before .before .before .before .args .list .now) _ _
+    (c .before .before .before .before .before .before .before .before .before .before .before .before .before .before .before .before .args .answer .now)
+    (c .before .before .before .before .before .before .before .before .before .before .before .if1 .left) _ _ _
+    (c .before .before .before .before .before .before .before .before .write .ensures) _ _ (c .before .before .refusal .given .1) _
+    (c .refusal-number .ensures)))

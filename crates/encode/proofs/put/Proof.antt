@@ -29,11 +29,21 @@ put-spec =
     (λ c.
     let start = c .before .before .before .before .before .before .before .before .before in
     let n = c .before .before .before .before .before .before .before .needed in
-    omega (arith, first-fits (start .args .v) (n .result) (start .fits .v .fits) (n .ensures), c .before .before .before .before .lead .ensures, c .before .before .scatter .ensures .0))
+    omega (
+      arith,
+      first-fits (start .args .v) (n .result) (start .fits .v .fits) (n .ensures),
+      c .before .before .before .before .lead .ensures,
+      c .before .before .scatter .ensures .0,
+    ))
     (λ c.
     let start = c .before .before .before .before .before .before .before .before .before in
     let n = c .before .before .before .before .before .before .before .needed in
-    omega (arith, first-fits (start .args .v) (n .result) (start .fits .v .fits) (n .ensures), c .before .before .before .before .lead .ensures, c .before .before .scatter .ensures .0))
+    omega (
+      arith,
+      first-fits (start .args .v) (n .result) (start .fits .v .fits) (n .ensures),
+      c .before .before .before .before .lead .ensures,
+      c .before .before .scatter .ensures .0,
+    ))
     (λ c. search needs)
     (λ c. search needs)
     (λ c. search needs)
@@ -43,4 +53,5 @@ put-spec =
     let n = c .before .before .before .before .before .before .before .needed in
     let l = c .before .before .before .before .lead in
     let rest = c .before .before .scatter in
-    put-done (at-start .v) (n .result) (at-start .out .now) (at-start .at) (n .ensures) (rest .last .1 .0) (l .result + rest .result) (omega arith) (rest .ensures .1) (omega (arith, l .ensures, rest .ensures .0))))
+    put-done (at-start .v) (n .result) (at-start .out .now) (at-start .at) (n .ensures) (rest .last .1 .0) (l .result + rest .result) (omega arith)
+    (rest .ensures .1) (omega (arith, l .ensures, rest .ensures .0))))

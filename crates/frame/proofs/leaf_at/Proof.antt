@@ -17,6 +17,10 @@ leaf-at-spec =
     (λ c. search laws)
     (λ c. search laws)
     (λ c. search laws)
-    (λ c. omega (arith, leaf-inside (c .before .before .before .before .before .before .before .args .list .now) _ (c .before .before .before .before .before .inside .ensures .0) _ _ (c .before .before .before .leaf-of .ensures) _ _ _ (c .before .end .given .1)))
+    (λ c. omega (
+      arith,
+      leaf-inside (c .before .before .before .before .before .before .before .args .list .now) _
+          (c .before .before .before .before .before .inside .ensures .0) _ _ (c .before .before .before .leaf-of .ensures) _ _ _ (c .before .end .given .1),
+    ))
     (λ c. search laws)
     (λ c. search laws))

@@ -17,7 +17,15 @@ name-at-spec =
     (λ c. search laws)
     (λ c. search laws)
     (λ c. search laws)
-    (λ c. omega (arith, name-inside (c .before .before .before .before .before .before .before .args .list .now) _ (c .before .before .before .before .before .inside .ensures .0) _ (c .before .before .before .name-of .ensures) _ _ (c .before .begin .given .1)))
-    (λ c. omega (arith, name-inside (c .before .before .before .before .before .before .before .args .list .now) _ (c .before .before .before .before .before .inside .ensures .0) _ (c .before .before .before .name-of .ensures) _ _ (c .before .begin .given .1)))
+    (λ c. omega (
+      arith,
+      name-inside (c .before .before .before .before .before .before .before .args .list .now) _
+          (c .before .before .before .before .before .inside .ensures .0) _ (c .before .before .before .name-of .ensures) _ _ (c .before .begin .given .1),
+    ))
+    (λ c. omega (
+      arith,
+      name-inside (c .before .before .before .before .before .before .before .args .list .now) _
+          (c .before .before .before .before .before .inside .ensures .0) _ (c .before .before .before .name-of .ensures) _ _ (c .before .begin .given .1),
+    ))
     (λ c. search laws)
     (λ c. search laws))

@@ -20,8 +20,20 @@ named-spec =
     (λ c κs. search laws)
     (λ c. search laws)
     (λ c. search laws)
-    (λ c. omega (arith, named-start (c .before .before .before .before .before .before .args .from) (c .before .before .before .before .before .before .args .modes) (c .before .before .before .before .before .before .args .faults) (c .before .before .before .before .before .before .args .part .now) _ (c .before .before .before .before .before .before .pre) (c .before .before .before .text-of .ensures) _ _ _ (c .before .begin .given .1)))
-    (λ c. omega (arith, named-end (c .before .before .before .before .before .before .args .from) (c .before .before .before .before .before .before .args .modes) (c .before .before .before .before .before .before .args .faults) (c .before .before .before .before .before .before .args .part .now) _ (c .before .before .before .before .before .before .pre) (c .before .before .before .text-of .ensures) _ _ _ (c .before .begin .given .1)))
+    (λ c.
+    omega (
+      arith,
+      named-start (c .before .before .before .before .before .before .args .from) (c .before .before .before .before .before .before .args .modes)
+          (c .before .before .before .before .before .before .args .faults) (c .before .before .before .before .before .before .args .part .now) _
+          (c .before .before .before .before .before .before .pre) (c .before .before .before .text-of .ensures) _ _ _ (c .before .begin .given .1),
+    ))
+    (λ c.
+    omega (
+      arith,
+      named-end (c .before .before .before .before .before .before .args .from) (c .before .before .before .before .before .before .args .modes)
+          (c .before .before .before .before .before .before .args .faults) (c .before .before .before .before .before .before .args .part .now) _
+          (c .before .before .before .before .before .before .pre) (c .before .before .before .text-of .ensures) _ _ _ (c .before .begin .given .1),
+    ))
     (λ c κs. search laws)
     (λ c. search laws)
     (λ c. search laws))

@@ -21,8 +21,26 @@ shared-items-spec =
     (λ c κs. search laws)
     (λ c. search laws)
     (λ c. search laws)
-    (λ c. omega (arith, count-in (c .before .before .before .before .before .before .args .begin) (c .before .before .before .before .before .before .args .end) (c .before .before .before .before .before .before .args .part .now) (c .before .before .before .before .before .before .pre .0) (c .before .before .before .before .before .before .pre .1) _ (c .before .before .before .read .ensures) _ _ _ (c .before .value .given .1)))
+    (λ c.
+    omega (
+      arith,
+      count-in (c .before .before .before .before .before .before .args .begin) (c .before .before .before .before .before .before .args .end)
+          (c .before .before .before .before .before .before .args .part .now) (c .before .before .before .before .before .before .pre .0)
+          (c .before .before .before .before .before .before .pre .1) _ (c .before .before .before .read .ensures) _ _ _ (c .before .value .given .1),
+    ))
     (λ c κs. search laws)
-    (λ c κs. (count-in (c .before .before .before .before .before .before .before .args .begin) (c .before .before .before .before .before .before .before .args .end) (c .before .before .before .before .before .before .before .args .part .now) (c .before .before .before .before .before .before .before .pre .0) (c .before .before .before .before .before .before .before .pre .1) _ (c .before .before .before .before .read .ensures) _ _ _ (c .before .before .value .given .1), c .before .before .before .before .before .before .before .pre .1))
+    (λ c κs. (
+      count-in (c .before .before .before .before .before .before .before .args .begin) (c .before .before .before .before .before .before .before .args .end)
+          (c .before .before .before .before .before .before .before .args .part .now) (c .before .before .before .before .before .before .before .pre .0)
+          (c .before .before .before .before .before .before .before .pre .1) _ (c .before .before .before .before .read .ensures) _ _ _
+          (c .before .before .value .given .1),
+      c .before .before .before .before .before .before .before .pre .1,
+    ))
     (λ c. search laws)
-    (λ c. shared-whole (c .before .before .before .before .before .before .before .before .args .begin) (c .before .before .before .before .before .before .before .before .args .end) (c .before .before .before .before .before .before .before .before .args .part .now) (c .before .before .before .before .before .before .before .before .pre .0) (c .before .before .before .before .before .before .before .before .pre .1) _ (c .before .before .before .before .before .read .ensures) _ _ _ (c .before .before .before .value .given .1) (c .before .before .before .before .before .before .before .before .args .modes) (c .before .before .before .before .before .before .before .before .args .faults) _ _ (c .before .note .ensures) (c .shared-byte .ensures)))
+    (λ c. shared-whole (c .before .before .before .before .before .before .before .before .args .begin)
+    (c .before .before .before .before .before .before .before .before .args .end)
+    (c .before .before .before .before .before .before .before .before .args .part .now)
+    (c .before .before .before .before .before .before .before .before .pre .0) (c .before .before .before .before .before .before .before .before .pre .1) _
+    (c .before .before .before .before .before .read .ensures) _ _ _ (c .before .before .before .value .given .1)
+    (c .before .before .before .before .before .before .before .before .args .modes)
+    (c .before .before .before .before .before .before .before .before .args .faults) _ _ (c .before .note .ensures) (c .shared-byte .ensures)))

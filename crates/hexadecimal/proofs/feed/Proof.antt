@@ -28,6 +28,15 @@ feed-spec =
     (λ c κs. search needs)
     (λ c. search needs)
     (λ c. search needs)
-    (λ c. (keeps-length (getD (c .before .before .before .before .before .before .before .before .before .args .text .now) (c .before .before .before .before .before .before .loop .i) 0) (c .before .before .before .before .before .before .loop .state) _ (c .before .before .before .before .before .before .loop .list) _ (c .before .before .one .ensures) ∙ c .before .before .before .before .before .before .loop .inv .0, fed-on (c .before .before .before .before .before .before .before .before .before .args .text .now) (c .before .before .before .before .before .before .loop .i) (c .before .before .before .before .before .before .loop .state) _ (c .before .before .before .before .before .before .loop .list) _ _ (c .before .before .before .before .before .loop-test .taken) (c .before .before .before .before .before .before .loop .inv .1) (c .before .before .one .ensures)))
+    (λ c. (
+      keeps-length (getD (c .before .before .before .before .before .before .before .before .before .args .text .now)
+          (c .before .before .before .before .before .before .loop .i) 0) (c .before .before .before .before .before .before .loop .state) _
+          (c .before .before .before .before .before .before .loop .list) _ (c .before .before .one .ensures)
+          ∙ c .before .before .before .before .before .before .loop .inv .0,
+      fed-on (c .before .before .before .before .before .before .before .before .before .args .text .now)
+          (c .before .before .before .before .before .before .loop .i) (c .before .before .before .before .before .before .loop .state) _
+          (c .before .before .before .before .before .before .loop .list) _ _ (c .before .before .before .before .before .loop-test .taken)
+          (c .before .before .before .before .before .before .loop .inv .1) (c .before .before .one .ensures),
+    ))
     (λ c. search needs)
     (λ c. sym (fed-end _ (c .before .loop .i) _ _ _ (omega arith) (c .before .loop .inv .1))))

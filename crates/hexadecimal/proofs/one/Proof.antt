@@ -17,9 +17,16 @@ one-spec =
     (λ c. search needs)
     (λ c κs. search needs)
     (λ c. search needs)
-    (λ c. one-second (c .before .before .before .before .before .before .before .before .before .before .before .args .c) _ _ (c .before .before .before .before .before .before .before .before .before .if1 .left) _ (c .before .before .before .before .before .before .before .before .character-of .ensures) _ (c .before .before .before .before .before .before .digit .given .1) (c .before .before .before .before .if2 .taken) _ _ (c .before .before .second .ensures))
+    (λ c. one-second (c .before .before .before .before .before .before .before .before .before .before .before .args .c) _ _
+    (c .before .before .before .before .before .before .before .before .before .if1 .left) _
+    (c .before .before .before .before .before .before .before .before .character-of .ensures) _
+    (c .before .before .before .before .before .before .digit .given .1) (c .before .before .before .before .if2 .taken) _ _
+    (c .before .before .second .ensures))
     (λ c. search needs)
     (λ c. search needs)
-    (λ c. one-first (c .before .before .before .before .before .before .before .args .c) _ _ (c .before .before .before .before .before .if1 .left) _ (c .before .before .before .before .character-of .ensures) _ (c .before .before .digit .given .1) (c .if2 .left))
-    (λ c. one-feed (c .before .before .before .before .before .args .c) _ _ (c .before .before .before .if1 .left) _ (c .before .before .character-of .ensures) (c .enum-told .given .1))
-    (λ c. one-another (c .before .before .before .before .before .args .c) _ _ (c .before .before .before .if1 .left) _ (c .before .before .character-of .ensures) (c .enum-told2 .given .1)))
+    (λ c. one-first (c .before .before .before .before .before .before .before .args .c) _ _ (c .before .before .before .before .before .if1 .left) _
+    (c .before .before .before .before .character-of .ensures) _ (c .before .before .digit .given .1) (c .if2 .left))
+    (λ c. one-feed (c .before .before .before .before .before .args .c) _ _ (c .before .before .before .if1 .left) _ (c .before .before .character-of .ensures)
+    (c .enum-told .given .1))
+    (λ c. one-another (c .before .before .before .before .before .args .c) _ _ (c .before .before .before .if1 .left) _
+    (c .before .before .character-of .ensures) (c .enum-told2 .given .1)))

@@ -49,8 +49,10 @@ gather-spec =
     (λ c. omega arith)
     (λ c.
     let at-start = c .before .before .before .before .before .args in
-    let here = c .before .before .before .loop in
-    (omega arith, again (at-start .part .now) (here .value) (c .wide .result) (here .i) (at-start .to) _ (omega arith) (omega arith) (c .wide .ensures) (here .inv .1)))
+    let here = c .before .before .before .loop in (
+      omega arith,
+      again (at-start .part .now) (here .value) (c .wide .result) (here .i) (at-start .to) _ (omega arith) (omega arith) (c .wide .ensures) (here .inv .1),
+    ))
     (λ c.
     let at-start = c .before .before .before .args in
     let here = c .before .loop in

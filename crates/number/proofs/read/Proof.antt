@@ -49,4 +49,5 @@ read-spec =
     let n = c .before .before .before .before .before .following in
     let b = c .before .before .before .wide2 in
     let l = c .before .before .lead in
-    read-whole s (n .result) (l .result) (b .result - l .result) _ _ (n .ensures) (omega arith) (l .ensures) (omega (arith, b .ensures)) (c .before .gather .ensures) (c .bound .ensures)))
+    read-whole s (n .result) (l .result) (b .result - l .result) _ _ (n .ensures) (omega arith) (l .ensures) (omega (arith, b .ensures))
+    (c .before .gather .ensures) (c .bound .ensures)))

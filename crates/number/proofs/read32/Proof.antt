@@ -11,5 +11,6 @@ read32-spec =
     (tie.spec
     (λ c. rw (lt-ltb _ _ (c .if1 .taken)))
     (λ c κs. (omega arith, omega arith, omega (arith, fixed-lt (c .before .before .args .part .now) 4 (c .before .shared-slice-known .given) (omega arith))))
-    (λ c. omega (arith, fixed-lt (c .before .before .before .args .part .now) 4 (c .before .before .shared-slice-known .given) (omega arith), c .gather .ensures))
+    (λ c.
+    omega (arith, fixed-lt (c .before .before .before .args .part .now) 4 (c .before .before .shared-slice-known .given) (omega arith), c .gather .ensures))
     (λ c. rw (le-ltb _ _ (c .before .if1 .left), c .gather .ensures)))

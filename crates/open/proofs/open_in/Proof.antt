@@ -23,10 +23,18 @@ open-in-spec =
     (λ c. search laws)
     (λ c. search laws)
     (λ c. search laws)
-    (λ c. omega (arith, c .before .before .before .before .before .before .before .pre, fields-begin _ _ _ _ 0 _ (c .before .before .before .before .head-of .ensures) _ _ _ _ (c .before .before .form .given .1)))
+    (λ c. omega (
+      arith,
+      c .before .before .before .before .before .before .before .pre,
+      fields-begin _ _ _ _ 0 _ (c .before .before .before .before .head-of .ensures) _ _ _ _ (c .before .before .form .given .1),
+    ))
     (λ c. search laws)
     (λ c. search laws)
-    (λ c. omega (arith, c .before .before .before .before .before .before .before .pre, items-begin _ _ _ _ 0 _ (c .before .before .before .before .head-of .ensures) _ _ _ _ _ (c .before .before .form2 .given .1)))
+    (λ c. omega (
+      arith,
+      c .before .before .before .before .before .before .before .pre,
+      items-begin _ _ _ _ 0 _ (c .before .before .before .before .head-of .ensures) _ _ _ _ _ (c .before .before .form2 .given .1),
+    ))
     (λ c. search laws)
     (λ c. search laws)
     (λ c. search laws)

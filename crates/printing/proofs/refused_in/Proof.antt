@@ -52,16 +52,35 @@ refused-in-spec =
     (λ c κs. omega (
       arith,
       put-length _ _ _ _ _
-          (c .before .before .before .before .before .before .before .before .before .before .before .before .before .before .before .before .before .put-word .ensures),
-      put-next _ _ _ _ _ (c .before .before .before .before .before .before .before .before .before .before .before .before .before .before .before .before .before .put-word .ensures),
-      put-length _ _ _ _ _ (c .before .before .before .before .before .before .before .before .before .before .before .before .before .put-decimal .ensures .0),
+          (c .before .before .before .before .before .before .before .before .before .before .before .before .before .before .before .before .before .put-word
+          .ensures),
+      put-next _ _ _ _ _
+          (c .before .before .before .before .before .before .before .before .before .before .before .before .before .before .before .before .before .put-word
+          .ensures),
+      put-length _ _ _ _ _
+          (c .before .before .before .before .before .before .before .before .before .before .before .before .before .put-decimal .ensures .0),
       c .before .before .before .before .before .before .before .before .before .before .before .before .before .put-decimal .ensures .1,
       put-length _ _ _ _ _ (c .before .before .before .before .before .before .before .before .put-word2 .ensures),
       put-next _ _ _ _ _ (c .before .before .before .before .before .before .before .before .put-word2 .ensures),
       put-length _ _ _ _ _ (c .before .before .before .before .put-decimal2 .ensures .0),
       c .before .before .before .before .put-decimal2 .ensures .1,
-      c .before .before .before .before .before .before .before .before .before .before .before .before .before .before .before .before .before .before .before .before .before .pre,
+      c .before .before .before .before .before .before .before .before .before .before .before .before .before .before .before .before .before .before
+          .before .before .before .pre,
     ))
     (λ c. search needs)
     (λ c. put-then (wordRefused ++ decimal 2
-    (c .before .before .before .before .before .before .before .before .before .before .before .before .before .before .before .before .before .before .before .before .before .before .before .before .args .number) ++ wordAt ++ decimal 20 (c .before .before .before .before .before .before .before .before .before .before .before .before .before .before .before .before .before .before .before .before .before .before .before .before .args .place)) (lineEnd) _ _ _ _ _ _ (put-then (wordRefused ++ decimal 2 (c .before .before .before .before .before .before .before .before .before .before .before .before .before .before .before .before .before .before .before .before .before .before .before .before .args .number) ++ wordAt) (decimal 20 (c .before .before .before .before .before .before .before .before .before .before .before .before .before .before .before .before .before .before .before .before .before .before .before .before .args .place)) _ _ _ _ _ _ (put-then (wordRefused ++ decimal 2 (c .before .before .before .before .before .before .before .before .before .before .before .before .before .before .before .before .before .before .before .before .before .before .before .before .args .number)) (wordAt) _ _ _ _ _ _ (put-then (wordRefused) (decimal 2 (c .before .before .before .before .before .before .before .before .before .before .before .before .before .before .before .before .before .before .before .before .before .before .before .before .args .number)) _ _ _ _ _ _ (c .before .before .before .before .before .before .before .before .before .before .before .before .before .before .before .before .before .before .before .before .put-word .ensures) (c .before .before .before .before .before .before .before .before .before .before .before .before .before .before .before .before .put-decimal .ensures .0)) (c .before .before .before .before .before .before .before .before .before .before .before .put-word2 .ensures)) (c .before .before .before .before .before .before .before .put-decimal2 .ensures .0)) (c .before .before .put-word3 .ensures)))
+    (c .before .before .before .before .before .before .before .before .before .before .before .before .before .before .before .before .before .before .before
+    .before .before .before .before .before .args .number) ++ wordAt ++ decimal 20 (c .before .before .before .before .before .before .before .before .before
+    .before .before .before .before .before .before .before .before .before .before .before .before .before .before .before .args .place))
+    (lineEnd) _ _ _ _ _ _ (put-then (wordRefused ++ decimal 2 (c .before .before .before .before .before .before .before .before .before .before .before
+    .before .before .before .before .before .before .before .before .before .before .before .before .before .args .number) ++ wordAt)
+    (decimal 20 (c .before .before .before .before .before .before .before .before .before .before .before .before .before .before .before .before .before
+    .before .before .before .before .before .before .before .args .place)) _ _ _ _ _ _
+    (put-then (wordRefused ++ decimal 2 (c .before .before .before .before .before .before .before .before .before .before .before .before .before .before
+    .before .before .before .before .before .before .before .before .before .before .args .number)) (wordAt) _ _ _ _ _ _
+    (put-then (wordRefused) (decimal 2 (c .before .before .before .before .before .before .before .before .before .before .before .before .before .before
+    .before .before .before .before .before .before .before .before .before .before .args .number)) _ _ _ _ _ _ (c .before .before .before .before .before
+    .before .before .before .before .before .before .before .before .before .before .before .before .before .before .before .put-word .ensures)
+    (c .before .before .before .before .before .before .before .before .before .before .before .before .before .before .before .before .put-decimal .ensures
+    .0)) (c .before .before .before .before .before .before .before .before .before .before .before .put-word2 .ensures))
+    (c .before .before .before .before .before .before .before .put-decimal2 .ensures .0)) (c .before .before .put-word3 .ensures)))

@@ -1,5 +1,5 @@
--- `program::read_all` meets its contract. The loop's invariant: some parts were typed on, which with the bytes left make fewer than 2^64, and both slices keep their lengths.
--- Assumes nothing of its own.
+-- `program::read_all` meets its contract. The loop's invariant: some parts were typed on, which with the bytes left make fewer than 2^64, and both slices keep
+-- their lengths. Assumes nothing of its own.
 use Rattle.program.proofs.read_all.Statement.{statement}
 use Rattle.program.proofs.read_all.Tie as tie
 use Rattle.program.proofs.read_all.Reads as reads

@@ -19,9 +19,27 @@ field-at-spec =
     (λ c κs. search needs)
     (λ c. search needs)
     (λ c. search needs)
-    (λ c. omega (arith, c .before .before .before .before .before .before .before .before .pre, field-inside _ 0 _ _ _ _ _ (c .before .before .before .before .before .meet-of .ensures) _ (c .before .before .before .before .placed .ensures) _ _ (c .before .before .place .given .1)))
-    (λ c. omega (arith, c .before .before .before .before .before .before .before .before .before .pre, field-inside _ 0 _ _ _ _ _ (c .before .before .before .before .before .before .meet-of .ensures) _ (c .before .before .before .before .before .placed .ensures) _ _ (c .before .before .before .place .given .1)))
+    (λ c. omega (
+      arith,
+      c .before .before .before .before .before .before .before .before .pre,
+      field-inside _ 0 _ _ _ _ _ (c .before .before .before .before .before .meet-of .ensures) _ (c .before .before .before .before .placed .ensures) _ _
+          (c .before .before .place .given .1),
+    ))
+    (λ c. omega (
+      arith,
+      c .before .before .before .before .before .before .before .before .before .pre,
+      field-inside _ 0 _ _ _ _ _ (c .before .before .before .before .before .before .meet-of .ensures) _
+          (c .before .before .before .before .before .placed .ensures) _ _ (c .before .before .before .place .given .1),
+    ))
     (λ c κs. search needs)
-    (λ c. omega (arith, c .before .before .before .before .before .before .before .before .before .before .pre, field-inside _ 0 _ _ _ _ _ (c .before .before .before .before .before .before .before .meet-of .ensures) _ (c .before .before .before .before .before .before .placed .ensures) _ _ (c .before .before .before .before .place .given .1)))
-    (λ c. field-is _ (c .before .before .before .before .before .before .before .args .at) _ _ _ _ _ (c .before .before .before .before .meet-of .ensures) _ (c .before .before .before .placed .ensures) _ (c .before .stop .given .1))
-    (λ c. field-at-is _ (c .before .before .before .before .before .before .before .before .before .before .args .at) _ _ _ _ _ (c .before .before .before .before .before .before .before .meet-of .ensures) _ (c .before .before .before .before .before .before .placed .ensures) _ _ (c .before .before .before .before .place .given .1) _ (c .of .ensures)))
+    (λ c. omega (
+      arith,
+      c .before .before .before .before .before .before .before .before .before .before .pre,
+      field-inside _ 0 _ _ _ _ _ (c .before .before .before .before .before .before .before .meet-of .ensures) _
+          (c .before .before .before .before .before .before .placed .ensures) _ _ (c .before .before .before .before .place .given .1),
+    ))
+    (λ c. field-is _ (c .before .before .before .before .before .before .before .args .at) _ _ _ _ _ (c .before .before .before .before .meet-of .ensures) _
+    (c .before .before .before .placed .ensures) _ (c .before .stop .given .1))
+    (λ c. field-at-is _ (c .before .before .before .before .before .before .before .before .before .before .args .at) _ _ _ _ _
+    (c .before .before .before .before .before .before .before .meet-of .ensures) _ (c .before .before .before .before .before .before .placed .ensures) _ _
+    (c .before .before .before .before .place .given .1) _ (c .of .ensures)))

@@ -18,9 +18,13 @@ lookup-spec =
     (λ c. search needs)
     (λ c. search needs)
     (λ c. search needs)
-    (λ c κs. let w = stands-fields _ _ _ (c .before .before .before .open-place .ensures) _ _ (c .before .form .given .1) in (w .last, w .inside, w .short, w .full))
+    (λ c κs.
+    let w = stands-fields _ _ _ (c .before .before .before .open-place .ensures) _ _ (c .before .form .given .1) in
+    (w .last, w .inside, w .short, w .full))
     (λ c. search needs)
-    (λ c. look-is _ _ (c .before .before .before .before .before .before .args .name .now) _ (c .before .before .before .open-place .ensures) _ (c .before .stop .given .1))
+    (λ c. look-is _ _ (c .before .before .before .before .before .before .args .name .now) _ (c .before .before .before .open-place .ensures) _
+    (c .before .stop .given .1))
     (λ c. look-is _ _ (c .before .before .before .before .before .args .name .now) _ (c .before .before .open-place .ensures) _ (c .enum-told .given .1))
-    (λ c. c .look .ensures ∙ look-is _ _ (c .before .before .before .before .before .before .before .args .name .now) _ (c .before .before .before .before .open-place .ensures) _ (c .before .before .form .given .1))
+    (λ c. c .look .ensures ∙ look-is _ _ (c .before .before .before .before .before .before .before .args .name .now) _
+    (c .before .before .before .before .open-place .ensures) _ (c .before .before .form .given .1))
     (λ c. look-is _ _ (c .before .before .before .before .before .args .name .now) _ (c .before .before .open-place .ensures) _ (c .enum-told2 .given .1)))

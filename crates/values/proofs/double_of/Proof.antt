@@ -21,9 +21,11 @@ double-of-spec =
     (λ c κs. search needs)
     (λ c. search needs)
     (λ c. c .exact-of .ensures
-    ∙ negative-exact _ (c .before .before .before .before .before .before .args .m) (c .before .before .before .before .before .if1 .taken) _ (c .before .before .before .before .minus-plus-one .ensures) _ (c .before .before .z .given .1) _
+    ∙ negative-exact _ (c .before .before .before .before .before .before .args .m) (c .before .before .before .before .before .if1 .taken) _
+    (c .before .before .before .before .minus-plus-one .ensures) _ (c .before .before .z .given .1) _
     (toZ-ofZ w64 _ (record { sfits = c .before .known-told .given .0 .1 })))
-    (λ c. negative-double _ (c .before .before .before .before .args .m) (c .before .before .before .if1 .taken) _ (c .before .before .minus-plus-one .ensures) _ (c .enum-told .given .1))
+    (λ c. negative-double _ (c .before .before .before .before .args .m) (c .before .before .before .if1 .taken) _
+    (c .before .before .minus-plus-one .ensures) _ (c .enum-told .given .1))
     (λ c. search needs)
     (λ c κs. search needs)
     (λ c. c .exact-of2 .ensures ∙ ap (λ z. doubleOf (sorts.whole z)) (toZ-pos w64 (c .before .before .before .args .m) (c .before .if2 .taken))

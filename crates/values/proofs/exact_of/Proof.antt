@@ -13,4 +13,12 @@ use Rattle.values.proofs.IntegerLaws.{exact-is}
 
 pub exact-of-spec : {M : Type 1} → statement M
 exact-of-spec =
-    tie.close (tie.spec (λ c κs. search needs) (λ c. search needs) (λ c. search needs) (λ c. exact-is (c .before .before .before .before .args .z) _ (c .before .before .before .of-integer .ensures ∙ ap exact (toZ-ofZ w64 (c .before .before .before .before .args .z) (c .before .before .before .before .fits .z))) _ (c .before .bits .given .1)) (λ c. exact-is (c .before .before .before .args .z) _ (c .before .before .of-integer .ensures ∙ ap exact (toZ-ofZ w64 (c .before .before .before .args .z) (c .before .before .before .fits .z))) _ (c .enum-told .given .1)))
+    tie.close
+    (tie.spec
+    (λ c κs. search needs)
+    (λ c. search needs)
+    (λ c. search needs)
+    (λ c. exact-is (c .before .before .before .before .args .z) _ (c .before .before .before .of-integer .ensures
+    ∙ ap exact (toZ-ofZ w64 (c .before .before .before .before .args .z) (c .before .before .before .before .fits .z))) _ (c .before .bits .given .1))
+    (λ c. exact-is (c .before .before .before .args .z) _ (c .before .before .of-integer .ensures
+    ∙ ap exact (toZ-ofZ w64 (c .before .before .before .args .z) (c .before .before .before .fits .z))) _ (c .enum-told .given .1)))

@@ -12,4 +12,11 @@ use Rattle.values.specs.declared.Value.the-variants as Va
 
 pub float32-in-spec : {M : Type 1} → statement M
 float32-in-spec =
-    tie.close (tie.spec (λ c κs. search needs) (λ c. search needs) (λ c. search needs) (λ c κs. search needs) (λ c. ap float32In (sym (c .enum-told .given .1) ∙ c .before .before .read32 .ensures)) (λ c. ap Va.Real (c .widen .ensures) ∙ ap float32In (sym (c .before .before .bits .given .1) ∙ c .before .before .before .before .read32 .ensures)))
+    tie.close
+    (tie.spec
+    (λ c κs. search needs)
+    (λ c. search needs)
+    (λ c. search needs)
+    (λ c κs. search needs)
+    (λ c. ap float32In (sym (c .enum-told .given .1) ∙ c .before .before .read32 .ensures))
+    (λ c. ap Va.Real (c .widen .ensures) ∙ ap float32In (sym (c .before .before .bits .given .1) ∙ c .before .before .before .before .read32 .ensures)))

@@ -9,4 +9,11 @@ use mathlib.Core.Path.{sym, ap, _∙_}
 use Rattle.values.specs.Code.{float64In}
 
 pub float64-in-spec : {M : Type 1} → statement M
-float64-in-spec = tie.close (tie.spec (λ c κs. search needs) (λ c. search needs) (λ c. search needs) (λ c. ap float64In (sym (c .enum-told .given .1) ∙ c .before .before .read64 .ensures)) (λ c. ap float64In (sym (c .before .bits .given .1) ∙ c .before .before .before .read64 .ensures)))
+float64-in-spec =
+    tie.close
+    (tie.spec
+    (λ c κs. search needs)
+    (λ c. search needs)
+    (λ c. search needs)
+    (λ c. ap float64In (sym (c .enum-told .given .1) ∙ c .before .before .read64 .ensures))
+    (λ c. ap float64In (sym (c .before .bits .given .1) ∙ c .before .before .before .read64 .ensures)))

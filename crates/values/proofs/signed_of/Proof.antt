@@ -18,8 +18,11 @@ signed-of-spec =
     (λ c. search needs)
     (λ c. search needs)
     (λ c. ap I.Is (toZ-ofZ w64 _ (record { sfits = c .known-told .given .0 .1 }))
-    ∙ negative-signed _ (c .before .before .before .before .before .args .m) (c .before .before .before .before .if1 .taken) _ (c .before .before .before .minus-plus-one .ensures) _ (c .before .z .given .1))
-    (λ c. negative-signed _ (c .before .before .before .before .args .m) (c .before .before .before .if1 .taken) _ (c .before .before .minus-plus-one .ensures) _ (c .enum-told .given .1))
+    ∙ negative-signed _ (c .before .before .before .before .before .args .m) (c .before .before .before .before .if1 .taken) _
+    (c .before .before .before .minus-plus-one .ensures) _ (c .before .z .given .1))
+    (λ c. negative-signed _ (c .before .before .before .before .args .m) (c .before .before .before .if1 .taken) _
+    (c .before .before .minus-plus-one .ensures) _ (c .enum-told .given .1))
     (λ c. search needs)
-    (λ c. ap I.Is (toZ-pos w64 (c .before .before .args .m) (c .if2 .taken)) ∙ signed-within _ (c .before .before .args .m) (c .before .if1 .left) (c .if2 .taken))
+    (λ c. ap I.Is (toZ-pos w64 (c .before .before .args .m) (c .if2 .taken))
+    ∙ signed-within _ (c .before .before .args .m) (c .before .if1 .left) (c .if2 .taken))
     (λ c. signed-past _ (c .before .before .args .m) (c .before .if1 .left) (c .if2 .left)))

@@ -26,5 +26,6 @@ ticks-spec =
     (λ c. ticks-is _ _ _ (c .before .before .value-at .ensures) _ (c .enum-told .given .1))
     (λ c. ticks-is _ _ _ (c .before .before .value-at .ensures) _ (c .enum-told2 .given .1))
     (λ c. ticks-is _ _ _ (c .before .before .value-at .ensures) _ (c .enum-told3 .given .1))
-    (λ c. ap T.Are (toZ-ofZ w64 _ (record { sfits = c .known-told2 .given .0 .1 })) ∙ ticks-is _ _ _ (c .before .before .before .value-at .ensures) _ (c .before .z .given .1))
+    (λ c. ap T.Are (toZ-ofZ w64 _ (record { sfits = c .known-told2 .given .0 .1 }))
+    ∙ ticks-is _ _ _ (c .before .before .before .value-at .ensures) _ (c .before .z .given .1))
     (λ c. ticks-is _ _ _ (c .before .before .value-at .ensures) _ (c .enum-told4 .given .1)))

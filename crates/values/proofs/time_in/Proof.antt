@@ -14,4 +14,12 @@ use Rattle.values.specs.declared.Value.the-variants as Va
 
 pub time-in-spec : {M : Type 1} → statement M
 time-in-spec =
-    tie.close (tie.spec (λ c κs. search needs) (λ c. search needs) (λ c. search needs) (λ c κs. search needs) (λ c. ap timeIn (sym (c .enum-told .given .1) ∙ c .before .before .read64 .ensures)) (λ c. ap Va.Time (toZ-ofZ w64 _ (record { sfits = c .ticks .ok }) ∙ c .ticks .ensures) ∙ ap timeIn (sym (c .before .before .bits .given .1) ∙ c .before .before .before .before .read64 .ensures)))
+    tie.close
+    (tie.spec
+    (λ c κs. search needs)
+    (λ c. search needs)
+    (λ c. search needs)
+    (λ c κs. search needs)
+    (λ c. ap timeIn (sym (c .enum-told .given .1) ∙ c .before .before .read64 .ensures))
+    (λ c. ap Va.Time (toZ-ofZ w64 _ (record { sfits = c .ticks .ok }) ∙ c .ticks .ensures)
+    ∙ ap timeIn (sym (c .before .before .bits .given .1) ∙ c .before .before .before .before .read64 .ensures)))

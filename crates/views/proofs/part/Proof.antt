@@ -23,6 +23,12 @@ part-spec =
     (λ c. omega (arith, sound-good _ _ _ (c .before .before .checked .ensures) (c .enum-told .given .1)))
     (λ c κs. search needs)
     (λ c κs. search needs)
-    (λ c. omega (arith, sound-good _ _ _ (c .before .before .before .before .before .checked .ensures) (c .before .before .before .enum-told .given .1), part-fits _ _ _ (c .before .before .before .before .before .checked .ensures) (c .before .before .before .enum-told .given .1) _ (c .before .known-of .ensures) _ (c .size-length .ensures)))
+    (λ c. omega (
+      arith,
+      sound-good _ _ _ (c .before .before .before .before .before .checked .ensures) (c .before .before .before .enum-told .given .1),
+      part-fits _ _ _ (c .before .before .before .before .before .checked .ensures) (c .before .before .before .enum-told .given .1) _
+          (c .before .known-of .ensures) _ (c .size-length .ensures),
+    ))
     (λ c. part-fault _ _ _ (c .before .before .before .checked .ensures) _ (c .before .stop .given .1))
-    (λ c. part-is _ _ _ (c .before .before .before .before .before .checked .ensures) (c .before .before .before .enum-told .given .1) _ (c .before .known-of .ensures) _ (c .size-length .ensures)))
+    (λ c. part-is _ _ _ (c .before .before .before .before .before .checked .ensures) (c .before .before .before .enum-told .given .1) _
+    (c .before .known-of .ensures) _ (c .size-length .ensures)))

@@ -15,5 +15,7 @@ top-spec =
     (λ c κs. search laws)
     (λ c. search laws)
     (λ c. search laws)
-    (λ c. top-is _ _ _ (c .before .before .before .before .before .before .if1 .left) _ (c .before .before .before .before .meet-of .ensures) _ (c .before .before .before .placed .ensures) _ (c .before .stop .given .1))
-    (λ c. top-is _ _ _ (c .before .before .before .before .before .before .if1 .left) _ (c .before .before .before .before .meet-of .ensures) _ (c .before .before .before .placed .ensures) _ (c .before .place .given .1)))
+    (λ c. top-is _ _ _ (c .before .before .before .before .before .before .if1 .left) _ (c .before .before .before .before .meet-of .ensures) _
+    (c .before .before .before .placed .ensures) _ (c .before .stop .given .1))
+    (λ c. top-is _ _ _ (c .before .before .before .before .before .before .if1 .left) _ (c .before .before .before .before .meet-of .ensures) _
+    (c .before .before .before .placed .ensures) _ (c .before .place .given .1)))
