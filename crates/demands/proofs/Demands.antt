@@ -100,7 +100,8 @@ use Rattle.frames.proofs.Refusals as frames
 --   hexadecimal::character_of, nothing, feed;
 --   container::container_id, type_flags, shared_flags, size_of, pack, size_in, width_in, shared_in, is_uniform_in, store, number_at, clear;
 --   leaves::fixed, positive, negative, float64, text_leaf, custom_by_id, custom_by_name; printing::put_refused, put_encoding;
---   head::fixed_size, meet_of, head_of; Place::of, places::placed; names::twins;
+--   head::fixed_size, meet_of, head_of; Place::of, places::placed; names::name_at, twins;
+--   order::entry, begin_of, compare, arrange; passing::name_at; select::name_at, first_twin;
 --   frame::kind_of, name_of, name_at, name_end, leaf_of, leaf_at, leaf_end, bits_of; open::open_place; settle::decided; measure::measure;
 --   replies::number_of, varuint, double, signed, unsigned, ticks;
 --   contents::close, end_object, end_array, item_size, check_sizes; checks::check_field; place_replies::after_of, checked, top, step, part, found

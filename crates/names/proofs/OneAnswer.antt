@@ -3,7 +3,10 @@ use Prim.Native.Nat.{ℕ}
 use mathlib.Core.List.{List}
 use Rattle.number.proofs.OneAnswer.{One, one}
 use Rattle.format.specs.declared.Form.{Form}
-use Rattle.names.specs.FieldNames.{twinsAt}
+use Rattle.names.specs.FieldNames.{nameAt, twinsAt}
+
+pub name-at-one : (form : Form) (part : List ℕ) (at : ℕ) → One (nameAt form at part)
+name-at-one form part at = one (nameAt form at part)
 
 pub twins-one : (form : Form) (part : List ℕ) → One (twinsAt form part)
 twins-one form part = one (twinsAt form part)

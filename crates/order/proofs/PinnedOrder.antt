@@ -62,9 +62,11 @@ twins : isTwin part (ab₂ ∷ b ∷ ab ∷ []) ab ∷ isTwin part (ab₂ ∷ b 
 unfolding bytesAt equal isFirst isTwin
 twins = refl
 
--- none; the second of one name; of three the second; of two names the one that comes again first
-leasts : least part (b ∷ ab ∷ a ∷ a ∷ []) ∷ least part (ab₂ ∷ b ∷ ab ∷ a ∷ []) ∷ least part (ab₃ ∷ ab ∷ ab₂ ∷ []) ∷ least part [] ∷ []
-    ≡ 16777216 ∷ 3 ∷ 3 ∷ 16777216 ∷ []
+-- none, though an entry is there twice; the second of one name; of three the second; of two names the one that comes again first; no entry
+leasts :
+    least part (b ∷ ab ∷ a ∷ a ∷ []) ∷ least part (ab₂ ∷ b ∷ ab ∷ a ∷ []) ∷ least part (ab₃ ∷ ab ∷ ab₂ ∷ [])
+    ∷ least part (ab₃ ∷ of 98 98 1 4 ∷ b ∷ ab ∷ []) ∷ least part [] ∷ []
+    ≡ 16777216 ∷ 3 ∷ 3 ∷ 4 ∷ 16777216 ∷ []
 unfolding bytesAt equal isFirst isTwin leastOf
 leasts = refl
 

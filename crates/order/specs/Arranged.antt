@@ -1,6 +1,6 @@
 -- A table, arranged: its entries in order, up to the first that has the name of one before it in the part.
 use Prim.Native.Nat.{ℕ, _-_, _*_, _/_}
-use mathlib.Core.Bool.{Bool, true, false, cond, _&&_, _||_}
+use mathlib.Core.Bool.{Bool, false, cond, _&&_, _||_}
 use mathlib.Core.List.{List, [], _∷_, _++_}
 use lib.ListN.{length, take, drop, replicate}
 use lib.Dec.{ltb}

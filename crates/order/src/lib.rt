@@ -1,11 +1,11 @@
 // Names of a part in a table: each is one number, and the table is put in their order.
 ghost use mathlib.Core.Path.{_≡_};
 ghost use mathlib.Core.List.{_++_};
-ghost use Prim.Native.Nat.{_+_, _-_, _*_, _/_, _%_, _≤_, _<_};
-ghost use lib.ListN.{length, take, drop, replicate};
-ghost use Rattle.order.specs.Entry.{beginIn, lengthIn, keyIn, bytesAt, nameIn, entryOf};
+ghost use Prim.Native.Nat.{_+_, _-_, _*_, _≤_, _<_};
+ghost use lib.ListN.{length, take, replicate};
+ghost use Rattle.order.specs.Entry.{beginIn, bytesAt, nameIn, entryOf};
 ghost use Rattle.order.specs.Order.{order, upto};
-ghost use Rattle.order.specs.Arranged.{isFirst, arranged, afterwards, settled, least, kept};
+ghost use Rattle.order.specs.Arranged.{isFirst, arranged, afterwards};
 ghost use Rattle.order.specs.Passes.{Holds, Halves, Copies, Merges, Joins, Sorts, Tells, Keeps, Seconds, leastNext, countBefore};
 
 pub enum Order {
@@ -46,6 +46,7 @@ pub fn entry(part: &[u8], begin: usize, end: usize) -> u64
     (ends * 16777216 + (end - begin) as u64) * 16777216 + begin as u64
 }
 
+// Where the name of an entry begins.
 pub fn begin_of(x: u64) -> usize
     ensures { λ r. ⌜ r ≡ beginIn x ⌝ }
 {
@@ -59,8 +60,10 @@ fn compare_bytes(part: &[u8], a: usize, b: usize, n: usize) -> Order
 {
     let mut i = 0;
     while i < n {
-        if part[a + i] != part[b + i] {
-            if part[a + i] < part[b + i] {
+        let x = part[a + i];
+        let y = part[b + i];
+        if x != y {
+            if x < y {
                 return Order::Less;
             }
             return Order::More;

@@ -1,6 +1,6 @@
 -- Frames of an object that were read one after another: in the part that ends behind them stand their names, in order; and in the part that ends with the name
 -- of the next frame that name too, the last.
-use Prim.Native.Nat.{ℕ, zero, suc, _+_, _-_, _≤_}
+use Prim.Native.Nat.{ℕ, zero, suc, _+_, _-_, _≤_, _<_}
 use native.Mathlib.Omega.{arith}
 use mathlib.Core.Path.{_≡_, refl, sym, ap, _∙_}
 use mathlib.Core.Bool.{Bool, true, false, cond}
@@ -27,8 +27,9 @@ use Rattle.twins.specs.Own.{ownName}
 use Rattle.twins.specs.Walk.{onward}
 use Rattle.passing.specs.Pass.{passOver}
 use Rattle.passing.specs.FrameNames.{nameKnown, nameOf, frameNames}
-use Rattle.passing.proofs.PassLaws.{local-name, pass-takes}
+use Rattle.passing.proofs.PassLaws.{local-name, pass-takes, pass-less}
 use Rattle.passing.proofs.PassRead.{pass-read, own-name, read-name}
+use Rattle.passing.proofs.FrameReturns.{rest-at}
 use Rattle.passing.proofs.NamesLaws.{names-step, names-nil, named-parts, named-passed}
 
 -- ---- one frame, whatever stands behind it
@@ -110,6 +111,17 @@ cut-at s w r at p a b e l =
     rw e (take-at w r (p - at) (omega arith))
 
 module _ (d : ℕ) (s : List ℕ) (at p : ℕ) (a : at ≤ p) (b : p ≤ length s) {fs : List (List ℕ × List ℕ)} (o : Over d (drop at s) fs (drop p s)) where
+  -- the next frame was read too
+  pub over-next : (x : List ℕ × Tree d) (r : List ℕ) → readFrames d (some []) (drop p s) ≡ framed x r
+      → (p < length s - length r) × (length s - length r ≤ length s) × Over d (drop at s) (fs ++ ((drop p s, x .0) ∷ [])) (drop (length s - length r) s)
+  over-next x r e =
+      let i = pass-read d (some []) (drop p s) x r e in
+      let w = pass-takes d true (drop p s) r i in
+      let z : drop (length s - length r) s ≡ r = rest-at p s (w .0) r b (w .1) in
+      let l = pass-less d true (drop p s) r i in
+      let m = length-drop p s in
+      (omega arith, omega arith, rw z (onto o e))
+
   -- the part that ends behind them
   pub names-over : frameNames d (between at p s) ≡ namesOf fs
   names-over =
@@ -118,7 +130,7 @@ module _ (d : ℕ) (s : List ℕ) (at p : ℕ) (a : at ≤ p) (b : p ≤ length 
       rw z (ap (frameNames d) (sym (append-nil (w .0))) ∙ w .2 [] ∙ rw (names-nil d) (append-nil (namesOf fs)))
 
   -- the part that ends with the next frame's name
-  name-over : {n : List ℕ} {gs : List Flaw} {q : List ℕ} → nameOf d (drop p s) ≡ got n gs q
+  pub name-over : {n : List ℕ} {gs : List Flaw} {q : List ℕ} → nameOf d (drop p s) ≡ got n gs q
       → frameNames d (between at (length s - length q) s) ≡ namesOf fs ++ (n ∷ [])
   name-over {n} {gs} {q} h =
       let w = own-walked d (drop at s) o in

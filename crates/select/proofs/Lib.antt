@@ -8,3 +8,4 @@ mod CutReturns
 mod SearchReturns
 pub mod TwinLaws
 pub mod SourceLaws
+pub mod OneAnswer

@@ -9,7 +9,7 @@ pub arrange-spec : {M : Type 1} → statement M
 arrange-spec =
     tie.close
     (tie.spec
-    (λ c. search (arrange-refused, needs))
+    (λ c. arrange-refused _ _ _ (omega arith))
     (λ c. search needs)
     (λ c. search needs)
     (λ c. sym (lent-length (c .before .before .before .before .args .table .now) (c .before .before .before .before .args .n) (omega arith)))

@@ -9,8 +9,8 @@ pub compare-spec : {M : Type 1} → statement M
 compare-spec =
     tie.close
     (tie.spec
-    (λ c. search (names-less, needs))
-    (λ c. search (names-more, needs))
+    (λ c. names-less _ _ _ (omega arith))
+    (λ c. names-more _ _ _ (omega arith))
     (λ c κs. search needs)
     (λ c κs. search needs)
     (λ c κs. search needs)
