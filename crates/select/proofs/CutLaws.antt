@@ -13,11 +13,11 @@ use Rattle.order.specs.declared.Arranged.{Arranged}
 use Rattle.order.specs.declared.Arranged.the-variants as A
 use Rattle.order.specs.Entry.{beginIn, nameIn}
 use Rattle.order.specs.Arranged.{isFirst, lesser, least, before, kept, ordered, Afterwards, afterwards, settled, arranged}
-use Rattle.order.specs.Sorted.{Sorted, In, here, there}
+use Rattle.order.specs.Sorted.{Sorted, In}
 use Rattle.order.proofs.Perms.{perm-in, perm-back}
 use Rattle.order.proofs.SortedLaws.{ordered-sorted, ordered-perm, ordered-length}
 use Rattle.order.proofs.LeastLaws.{same-named, one-begin, lesser-left, lesser-right, lesser-both, least-more, least-bound}
-use Rattle.order.proofs.KeptLaws.{before-in, before-out, kept-in, kept-before, kept-once}
+use Rattle.order.proofs.KeptLaws.{kept-in, kept-before, kept-has, kept-once}
 use Rattle.select.specs.declared.Bound.{Bound}
 use Rattle.select.specs.declared.Bound.the-variants as B
 use Rattle.select.specs.declared.Pass.{Pass}
@@ -36,14 +36,6 @@ before-few p (e ∷ t) = go (ltb (beginIn e) p) (before-few p t)
     go : (o : Bool) → length (before p t) ≤ length t → length (cond o (e ∷ before p t) (before p t)) ≤ suc (length t)
     go true l = omega arith
     go false l = omega arith
-
-before-has : (p e : ℕ) (t : List ℕ) → In e t → beginIn e < p → In e (before p t)
-before-has p e t here l = rw (before-in p e _ l) here
-before-has p e t (there {y = y} {xs = xs} i) l = go (before-has p e xs i l) (ltb (beginIn y) p) refl
-  where
-    go : In e (before p xs) → (o : Bool) → ltb (beginIn y) p ≡ o → In e (before p (y ∷ xs))
-    go j true q = rw (before-in p y xs (ltb-true (beginIn y) p q)) (there j)
-    go j false q = rw (before-out p y xs (ltb-false (beginIn y) p q)) j
 
 -- ---- a table that is arranged
 
@@ -97,7 +89,7 @@ module _ (s t : List ℕ) (n : ℕ) (few : n ≤ length t / 2) (a : Arranged) (t
         (kept-in s e (take n t) j, rw least-is (kept-before s e (take n t) j))
 
     pub in-taken : (e : ℕ) → In e (take n t) → beginIn e < l → In e (take k t′)
-    in-taken e i b = rw taken-is (perm-in (perm-back (ordered-perm s (kept s (take n t)))) (before-has (least s (take n t)) e (take n t) i (rw least-is at b)))
+    in-taken e i b = rw taken-is (perm-in (perm-back (ordered-perm s (kept s (take n t)))) (kept-has s e (take n t) i (rw least-is at b)))
 
     taken-once : (x y : ℕ) → In x (take k t′) → In y (take k t′) → nameIn s x ≡ nameIn s y → x ≡ y
     taken-once x y i j d =

@@ -23,6 +23,10 @@ in-either e [] ys i f g = g i
 in-either e (x ∷ xs) ys here f g = f here
 in-either e (x ∷ xs) ys (there i) f g = in-either e xs ys i (λ j. f (there j)) g
 
+pub none-in : {X : Type 0} (e : ℕ) (t : List ℕ) → In e t → t ≡ [] → X
+none-in e t here h = clash cc
+none-in e t (there i) h = clash cc
+
 pub in-first : {X : Type 0} (e x : ℕ) (t : List ℕ) → In e (x ∷ t) → (e ≡ x → X) → (In e t → X) → X
 in-first e x t here f g = f refl
 in-first e x t (there i) f g = g i

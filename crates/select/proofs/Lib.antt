@@ -9,3 +9,4 @@ mod SearchReturns
 pub mod TwinLaws
 pub mod SourceLaws
 pub mod OneAnswer
+pub mod PinnedSelect

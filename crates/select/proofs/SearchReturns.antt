@@ -6,12 +6,11 @@ use mathlib.Core.Path.{_≡_, refl, sym, ap, _∙_, subst}
 use mathlib.Core.List.{List, [], _∷_, _++_, append-nil}
 use lib.ListN.{length, take, drop, getD, set, replicate, length-replicate, drop-of-length-le}
 use lib.Seq.{drop-cons, set-at}
-use Rattle.number.proofs.Clash.{clash}
 use Rattle.names.specs.declared.Name.{Name}
 use Rattle.names.specs.declared.Name.the-variants as N
 use Rattle.order.specs.Entry.{entryOf}
 use Rattle.order.specs.Arranged.{least}
-use Rattle.order.specs.Sorted.{In, here, there}
+use Rattle.order.specs.Sorted.{In}
 use Rattle.select.specs.declared.Source.{Source}
 use Rattle.select.specs.declared.Bound.{Bound}
 use Rattle.select.specs.declared.Bound.the-variants as B
@@ -19,6 +18,7 @@ use Rattle.select.specs.declared.Pass.{Pass}
 use Rattle.select.specs.Source.{namedAt, entriesOf, firstTwin, searched}
 use Rattle.select.specs.Range.{wanted}
 use Rattle.select.specs.Passes.{Covered, Settled, Holds, Reached, Standing, Adds, Finishes, Passes}
+use Rattle.select.proofs.HalfLaws.{none-in}
 use Rattle.select.proofs.WalkLaws.{Walked, walk-starts, walk-ends, walk-stops, walk-on, walk-in, walk-less}
 use Rattle.select.proofs.PassLaws.{first-pass, next-pass, last-pass, left, left-less}
 
@@ -31,10 +31,6 @@ pub record Gathering (o : Source) (s : List ℕ) (low : Bound) (t₀ t : List �
   pub standing : Standing s (entriesOf o s) met low t p
 
 module _ (o : Source) (s : List ℕ) (low : Bound) (t₀ : List ℕ) where
-  none-in : {X : Type 0} (e : ℕ) (t : List ℕ) → In e t → t ≡ [] → X
-  none-in e t here h = clash cc
-  none-in e t (there i) h = clash cc
-
   nothing : {X : Type 0} (e : ℕ) → In e [] → X
   nothing e i = none-in e [] i refl
 

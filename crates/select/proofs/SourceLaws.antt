@@ -6,7 +6,6 @@ use mathlib.Core.Bool.{Bool, true, false}
 use mathlib.Core.List.{List, [], _∷_, map}
 use lib.ListN.{length, take, drop, drop-of-length-le}
 use lib.Dec.{ltb}
-use Rattle.number.proofs.Clash.{clash}
 use Rattle.text.specs.Equal.{equal}
 use Rattle.format.specs.declared.Form.{Form}
 use Rattle.format.specs.Names.{twins}
@@ -25,7 +24,7 @@ use Rattle.order.proofs.LeastLaws.{named-same}
 use Rattle.select.specs.declared.Source.{Source}
 use Rattle.select.specs.declared.Source.the-variants as S
 use Rattle.select.specs.Source.{namedAt, entriesAfter, entriesFrom, entriesOf, firstTwin}
-use Rattle.select.proofs.HalfLaws.{in-first}
+use Rattle.select.proofs.HalfLaws.{none-in, in-first}
 use Rattle.select.proofs.TwinLaws.{Ascends, ascends-less, Keyed, twins-are}
 
 -- what is known of a source: `ns a` are the names from a on, and before a name stand l bytes at least
@@ -44,10 +43,6 @@ module _ (o : Source) (s : List ℕ) (l : ℕ) (ns : ℕ → List (List ℕ)) (w
     pub names : map (λ e. bytesIn s e) es ≡ ns a
     pub ascends : Ascends (l + a) es
     pub good : (x : ℕ) → In x es → Good s x
-
-  none-in : {X : Type 0} (e : ℕ) (t : List ℕ) → In e t → t ≡ [] → X
-  none-in e t here h = clash cc
-  none-in e t (there i) h = clash cc
 
   entries-whole : (k a : ℕ) → a ≤ length s → length s ≤ a + k → Whole a (entriesFrom o s k a)
   unfolding entriesFrom

@@ -14,7 +14,7 @@ use Rattle.format.specs.Names.{twins}
 use Rattle.order.specs.Entry.{beginIn, bytesIn, nameIn}
 use Rattle.order.specs.Arranged.{isFirst, least}
 use Rattle.order.specs.Sorted.{In, here, there}
-use Rattle.select.proofs.HalfLaws.{in-first}
+use Rattle.select.proofs.HalfLaws.{none-in, in-first}
 use Rattle.order.proofs.LeastLaws.{begin-below, first-is, is-first, least-bound, least-over, least-pair}
 
 -- ---- entries that begin one behind the other
@@ -34,10 +34,6 @@ ascends-in m h (there i) = let w = ascends-in _ (h .1) i in omega (arith, h .0)
 -- names of one key have one name where their bytes are equal
 abbrev pub Keyed : List ℕ → List ℕ → Type 0
 Keyed s es = (x e : ℕ) → In x es → In e es → equal (bytesIn s x) (bytesIn s e) ≡ true → nameIn s x ≡ nameIn s e
-
-none-in : {X : Type 0} (e : ℕ) (t : List ℕ) → In e t → t ≡ [] → X
-none-in e t here h = clash cc
-none-in e t (there i) h = clash cc
 
 or-left : (a b : Bool) → a ≡ true → (a || b) ≡ true
 or-left a b h = rw h
