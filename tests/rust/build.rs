@@ -4,8 +4,9 @@ use std::path::PathBuf;
 use std::process::Command;
 
 /// The calls of the library, without their prefix.
-const CALLS: [&str; 16] = [
+const CALLS: [&str; 17] = [
     "validate",
+    "validate_with",
     "varuint",
     "is_text",
     "are_equal",

@@ -43,3 +43,21 @@ build_rust() {
     done
     cargo build --quiet --release --offline --locked --manifest-path "$folder/Cargo.toml" "${words[@]}" >&2
 }
+
+# build_caller NAME: builds the C program that calls the library as the kit writes it, and leaves the command that runs it, under
+# the kit's emulator where the machine is no x86-64, in the array NAME.
+build_caller() {
+    local -n run="$1"
+    local archive="$repository/target/staticlib/libcabi.a" tools caller="$CARGO_TARGET_DIR/caller"
+    if [ ! -f "$archive" ]; then
+        echo "there is no $archive" >&2
+        exit 2
+    fi
+    tools="$(kit_tools)/bin"
+    mkdir -p "$CARGO_TARGET_DIR"
+    "$tools/clang" --target=x86_64-unknown-linux-gnu -O2 -ffreestanding -fno-builtin -fno-stack-protector -fPIC -Wall -Werror \
+        -c "$repository/tests/rust/archive/caller.c" -o "$caller.o"
+    "$tools/ld.lld" -static -o "$caller" "$caller.o" --whole-archive "$archive"
+    run=("$caller")
+    if [ "$(uname -m)" != x86_64 ]; then run=("$tools/qemu-x86_64" "$caller"); fi
+}

@@ -1,4 +1,1 @@
-pub mod CallLaws
-pub mod SentLaws
 pub mod OneAnswer
-pub mod Refusals

@@ -9,10 +9,11 @@ use Rattle.float.specs.Width.{widen}
 use Rattle.places.specs.declared.Place.{Place}
 use Rattle.places.specs.declared.After.{After}
 use Rattle.format.specs.Mask.{mask}
+use Rattle.validate.specs.Asked.{maskWith}
 use Rattle.places.specs.Places.{checked, top, step, part, lookup}
 use Rattle.places.specs.Values.{double, signed, unsigned, ticks}
 use Rattle.replies.specs.Number.{truth}
-use Rattle.cabi.specs.Sent.{sent}
+use Rattle.sending.specs.Sent.{sent}
 use Rattle.replies.specs.Reply.{told, varuint, doubleReply, signedReply, unsignedReply, ticksReply}
 use Rattle.place_replies.specs.PlaceReply.{placeOf, afterOf, checkedReply, topReply, stepReply, partReply, foundReply}
 
@@ -34,6 +35,9 @@ widen-one bits = one (widen bits)
 module _ (payload : List ℕ) where
   pub validate-one : (modes : ℕ) → One (mask modes payload)
   validate-one modes = one (mask modes payload)
+
+  pub validate-with-one : (modes : ℕ) (table : List ℕ) → One (maskWith modes payload table)
+  validate-with-one modes table = one (maskWith modes payload table)
 
   pub top-one : (answer : List ℕ) → One (told 4 (topReply (top payload)) answer)
   top-one answer = one (told 4 (topReply (top payload)) answer)

@@ -1,28 +1,25 @@
 // Calls for C and Rust (include/ajuqvane.h). A truth is answered as 1 or 0. The calls on places answer 0, where the lent numbers then start with what
 // is asked for; the number of the fault met; or 3 for no more, 5 for not there, 6 for a wrong kind, 7 for out of range, 12 for too few numbers lent.
-use frames::Written;
-use place_replies::after_of;
-use places::Place;
-use replies::number_of;
 ghost use mathlib.Core.Path.{_≡_};
 ghost use Rattle.text.specs.Equal.{equal};
 ghost use Rattle.text.specs.Utf8.{isText};
 ghost use Rattle.float.specs.Rule.{holds};
 ghost use Rattle.float.specs.Width.{widen};
 ghost use Rattle.format.specs.Mask.{mask};
+ghost use Rattle.validate.specs.Asked.{maskWith};
 ghost use Rattle.places.specs.Places.{checked, top, step, part, lookup};
 ghost use Rattle.places.specs.Values.{double, signed, unsigned, ticks};
 ghost use Rattle.replies.specs.Number.{truth, afterwards};
 ghost use Rattle.replies.specs.Reply.{told, varuint, doubleReply, signedReply, unsignedReply, ticksReply};
 ghost use Rattle.place_replies.specs.PlaceReply.{placeOf, afterOf, checkedReply, topReply, stepReply, partReply, foundReply};
-ghost use Rattle.cabi.specs.Sent.{sent};
+ghost use Rattle.sending.specs.Sent.{sent};
 
 // 0: a whole VarUInt stands at the front, and `answer` starts with its value, the bytes it takes, and 1 if it is minimal. 1: it is cut off.
 #[no_mangle]
 pub extern "C" fn ajuqvane_varuint(part: &[u8], answer: &mut [u64]) -> u32
     ensures { λ r. ⌜ afterwards r (now (answer .exit)) ≡ varuint (now (part .entry)) (now (answer .entry)) ⌝ }
 {
-    replies::varuint(number::read(part), answer)
+    basic_calls::varuint(part, answer)
 }
 
 // The part is text.
@@ -30,7 +27,7 @@ pub extern "C" fn ajuqvane_varuint(part: &[u8], answer: &mut [u64]) -> u32
 pub extern "C" fn ajuqvane_is_text(part: &[u8]) -> u32
     ensures { λ r. ⌜ r ≡ truth (isText (now (part .entry))) ⌝ }
 {
-    number_of(text::is_text(part))
+    basic_calls::is_text(part)
 }
 
 // The parts are equal, byte by byte.
@@ -38,7 +35,7 @@ pub extern "C" fn ajuqvane_is_text(part: &[u8]) -> u32
 pub extern "C" fn ajuqvane_are_equal<'a>(a: &'a [u8], b: &'a [u8]) -> u32
     ensures { λ r. ⌜ r ≡ truth (equal (now (a .entry)) (now (b .entry))) ⌝ }
 {
-    number_of(text::are_equal(a, b))
+    basic_calls::are_equal(a, b)
 }
 
 // Float32 holds the Float64 of these bits.
@@ -46,7 +43,7 @@ pub extern "C" fn ajuqvane_are_equal<'a>(a: &'a [u8], b: &'a [u8]) -> u32
 pub extern "C" fn ajuqvane_float32_holds(bits: u64) -> u32
     ensures { λ r. ⌜ r ≡ truth (holds bits) ⌝ }
 {
-    number_of(float::float32_holds(bits))
+    basic_calls::float32_holds(bits)
 }
 
 // The bits of the Float64 that a Float32 of these bits widens to.
@@ -65,6 +62,14 @@ pub extern "C" fn ajuqvane_validate(modes: u32, payload: &[u8]) -> u32
     validate::validate(modes, payload)
 }
 
+// The mask, with a table that is lent; it holds zeros afterwards.
+#[no_mangle]
+pub extern "C" fn ajuqvane_validate_with(modes: u32, payload: &[u8], table: &mut [u64]) -> u32
+    ensures { λ r. ⌜ record { answer = r; table = now (table .exit) } ≡ maskWith modes (now (payload .entry)) (now (table .entry)) ⌝ }
+{
+    validate::validate_with(modes, payload, table)
+}
+
 // The check of a place.
 #[no_mangle]
 pub extern "C" fn ajuqvane_check(
@@ -76,7 +81,7 @@ pub extern "C" fn ajuqvane_check(
 ) -> u32
     ensures { λ r. ⌜ r ≡ checkedReply (checked (now (payload .entry)) (placeOf kind start end depth)) .code ⌝ }
 {
-    place_replies::checked(open::checked(payload, Place::of(kind, start, end, depth)))
+    place_calls::check(payload, kind, start, end, depth)
 }
 
 // The top place: its kind, start, end and depth.
@@ -84,7 +89,7 @@ pub extern "C" fn ajuqvane_check(
 pub extern "C" fn ajuqvane_top(payload: &[u8], answer: &mut [u64]) -> u32
     ensures { λ r. ⌜ afterwards r (now (answer .exit)) ≡ told 4 (topReply (top (now (payload .entry)))) (now (answer .entry)) ⌝ }
 {
-    place_replies::top(Place::top(payload), answer)
+    place_calls::top(payload, answer)
 }
 
 // A step: the field's kind, start, end and depth, and where its name begins: the first field with some 0, else the one behind the end last.
@@ -102,14 +107,7 @@ pub extern "C" fn ajuqvane_step(
     ensures { λ r. ⌜ afterwards r (now (answer .exit))
         ≡ told 5 (stepReply (step (now (payload .entry)) (placeOf kind start end depth) (afterOf some last))) (now (answer .entry)) ⌝ }
 {
-    place_replies::step(
-        read::step(
-            payload,
-            Place::of(kind, start, end, depth),
-            after_of(some, last),
-        ),
-        answer,
-    )
+    place_calls::step(payload, kind, start, end, depth, some, last, answer)
 }
 
 // Where a place's view begins and ends.
@@ -125,10 +123,7 @@ pub extern "C" fn ajuqvane_view(
     ensures { λ r. ⌜ afterwards r (now (answer .exit))
         ≡ told 2 (partReply (part (now (payload .entry)) (placeOf kind start end depth))) (now (answer .entry)) ⌝ }
 {
-    place_replies::part(
-        views::part(payload, Place::of(kind, start, end, depth)),
-        answer,
-    )
+    place_calls::view(payload, kind, start, end, depth, answer)
 }
 
 // The first field of an object whose name is byte-equal to this one: its kind, start, end and depth.
@@ -145,10 +140,7 @@ pub extern "C" fn ajuqvane_lookup<'a>(
     ensures { λ r. ⌜ afterwards r (now (answer .exit))
         ≡ told 4 (foundReply (lookup (now (payload .entry)) (placeOf kind start end depth) (now (name .entry)))) (now (answer .entry)) ⌝ }
 {
-    place_replies::found(
-        read::lookup(payload, Place::of(kind, start, end, depth), name),
-        answer,
-    )
+    place_calls::lookup(payload, kind, start, end, depth, name, answer)
 }
 
 // A number as a double: its 64 bits.
@@ -164,10 +156,7 @@ pub extern "C" fn ajuqvane_double(
     ensures { λ r. ⌜ afterwards r (now (answer .exit))
         ≡ told 1 (doubleReply (double (now (payload .entry)) (placeOf kind start end depth))) (now (answer .entry)) ⌝ }
 {
-    replies::double(
-        values::double(payload, Place::of(kind, start, end, depth)),
-        answer,
-    )
+    value_calls::double(payload, kind, start, end, depth, answer)
 }
 
 // An integer as a signed number, in two's complement.
@@ -183,10 +172,7 @@ pub extern "C" fn ajuqvane_signed(
     ensures { λ r. ⌜ afterwards r (now (answer .exit))
         ≡ told 1 (signedReply (signed (now (payload .entry)) (placeOf kind start end depth))) (now (answer .entry)) ⌝ }
 {
-    replies::signed(
-        values::signed(payload, Place::of(kind, start, end, depth)),
-        answer,
-    )
+    value_calls::signed(payload, kind, start, end, depth, answer)
 }
 
 // An integer as an unsigned number.
@@ -202,10 +188,7 @@ pub extern "C" fn ajuqvane_unsigned(
     ensures { λ r. ⌜ afterwards r (now (answer .exit))
         ≡ told 1 (unsignedReply (unsigned (now (payload .entry)) (placeOf kind start end depth))) (now (answer .entry)) ⌝ }
 {
-    replies::unsigned(
-        values::unsigned(payload, Place::of(kind, start, end, depth)),
-        answer,
-    )
+    value_calls::unsigned(payload, kind, start, end, depth, answer)
 }
 
 // The ticks of a date or a span of time, in two's complement.
@@ -221,10 +204,7 @@ pub extern "C" fn ajuqvane_ticks(
     ensures { λ r. ⌜ afterwards r (now (answer .exit))
         ≡ told 1 (ticksReply (ticks (now (payload .entry)) (placeOf kind start end depth))) (now (answer .entry)) ⌝ }
 {
-    replies::ticks(
-        values::ticks(payload, Place::of(kind, start, end, depth)),
-        answer,
-    )
+    value_calls::ticks(payload, kind, start, end, depth, answer)
 }
 
 // The writer. 0: the answer is the encoding's length. 1 to 11: refused, and the answer is the place. With no number lent it is refused too.
@@ -238,18 +218,5 @@ pub extern "C" fn ajuqvane_write(
     ensures { λ r. ⌜ record { code = r; held = now (answer .exit); output = now (out .exit); work = now (work .exit) }
         ≡ sent (now (list .entry)) (now (out .entry)) (now (work .entry)) (now (answer .entry)) ⌝ }
 {
-    if answer.len() < 1 {
-        container::clear(work);
-        return replies::TOO_FEW;
-    }
-    match write::write(list, out, work) {
-        Written::Done(length) => {
-            answer[0] = length as u64;
-            0
-        }
-        Written::Refused(refusal, place) => {
-            answer[0] = place as u64;
-            frames::refusal_number(refusal)
-        }
-    }
+    sending::send(list, out, work, answer)
 }

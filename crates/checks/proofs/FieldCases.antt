@@ -114,13 +114,13 @@ part s w b q e =
 
 -- ---- a field by what was met
 
-abbrev fieldBy : Modes → ℕ → List ℕ → Met → Field
+abbrev pub fieldBy : Modes → ℕ → List ℕ → Met → Field
 fieldBy m d s (M.Stop j) = F.Stop j
 fieldBy m d s (M.Leaf k a b e h) = F.Read k e h
 fieldBy m d s (M.Fields k a b o c e h) = closed k e (contentsAt (fieldsIn o (between c e s)) m d h)
 fieldBy m d s (M.Items k a b o w c e h) = closed k e (contentsAt (itemsIn o w (between c e s)) m d h)
 
-field-view : (f : Form) (m : Modes) (g : Faults) (s : List ℕ) (d : ℕ) → fieldBy m d s (meetAt f m g s) ≡ fieldAt f m (suc d) g s
+pub field-view : (f : Form) (m : Modes) (g : Faults) (s : List ℕ) (d : ℕ) → fieldBy m d s (meetAt f m g s) ≡ fieldAt f m (suc d) g s
 unfolding fieldAt contentsAt meetAt read
 field-view f m g s d = at (meeting f s) refl ∙ sym (field-met (read d) m go g f s)
   where

@@ -2,7 +2,7 @@
 use Prim.Native.Nat.{ℕ, zero, suc, _+_, _-_, _≤_, _<_}
 use native.Mathlib.Omega.{arith}
 use mathlib.Core.Path.{_≡_, refl, sym, ap, _∙_}
-use mathlib.Core.Bool.{_&&_}
+use mathlib.Core.Bool.{false, _&&_}
 use mathlib.Core.List.{List, [], _∷_, _++_, append-assoc, map}
 use lib.ListN.{length, drop, length-drop}
 use lib.Seq.{drop-drop}
@@ -31,6 +31,7 @@ use Rattle.contents.specs.declared.Field.the-variants as F
 use Rattle.contents.specs.declared.Contents.the-variants as C
 use Rattle.names.specs.FieldNames.{twinsAt}
 use Rattle.contents.specs.Contents.{objectEnd, arrayEnd}
+use Rattle.contents.proofs.EndLaws.{object-unasked}
 use Rattle.checks.specs.Checks.{fieldAt, contentsAt}
 use Rattle.run.specs.Run.{join}
 use Rattle.run.proofs.RunLaws.{run-uniform, run-uniform-array}
@@ -129,7 +130,7 @@ module _ (f : Form) (m : Modes) (d : ℕ) (g : Faults) (s : List ℕ) where
       pub fields-step : (k : Kind) (a : ℕ) (v : Faults) → x ≡ F.Read k a v → Fields f m d g s (at + a) (room - 1) v (join u (id k))
       fields-step k a v z = along-step f m d g (fill (read d f)) (length s) s at room h u l x e next k a v z
 
-    pub fields-end : length s ≤ at → (v : Faults) → v ≡ objectEnd f m h u s → C.Read v ≡ contentsAt (fieldsIn f s) m d g
+    pub fields-end : length s ≤ at → (v : Faults) → v ≡ objectEnd f m h u (twinsAt f s) → C.Read v ≡ contentsAt (fieldsIn f s) m d g
     unfolding contentsAt objectEnd twinsAt
     fields-end i v e =
         let z = l .sofar in
@@ -151,6 +152,10 @@ module _ (f : Form) (m : Modes) (d : ℕ) (g : Faults) (s : List ℕ) where
           nil (flawIf b Twin),
           append-assoc (z .fs) (flawIf a NotUniform) (flawIf b Twin),
         )
+
+    -- where names are not asked about, they are not compared
+    pub fields-nameless : m .names ≡ false → length s ≤ at → (v : Faults) → v ≡ objectEnd f m h u false → C.Read v ≡ contentsAt (fieldsIn f s) m d g
+    fields-nameless n i v e = fields-end i v (e ∙ object-unasked f m h u false (twinsAt f s) n)
 
 -- ---- an array
 

@@ -1,4 +1,4 @@
-// The checks of a field and of the contents of a container. A field calls the check of its contents, which calls the check of each field in
+// The checks of a field and of the contents of a container where names are not asked about. A field calls the check of its contents, which calls the check of each field in
 // them: the depth left falls.
 use contents::Contents;
 use contents::Field;
@@ -8,11 +8,13 @@ use format::Form;
 use format::Stop;
 use head::Met;
 ghost use mathlib.Core.Path.{_≡_};
+ghost use mathlib.Core.Bool.{false};
 ghost use Rattle.format.specs.Payload.{fieldsIn, itemsIn};
-ghost use Rattle.checks.specs.Checks.{fieldAt, contentsAt};
+ghost use Rattle.checks.specs.Checks.{namelessly, fieldAt, contentsAt};
 
 // A field at the front of a part. (The part is taken anew as in `head::meet_of`.)
-pub fn check_field(part: &[u8], form: Form, modes: Modes, left: usize, faults: Faults) -> Field
+fn check_field(part: &[u8], form: Form, modes: Modes, left: usize, faults: Faults) -> Field
+    requires { ⌜ modes .names ≡ false ⌝ }
     ensures { λ r. ⌜ r ≡ fieldAt form modes left faults (now (part .entry)) ⌝ }
 {
     if left == 0 {
@@ -63,6 +65,7 @@ pub fn check_field(part: &[u8], form: Form, modes: Modes, left: usize, faults: F
 
 // The fields of an object, which fill the part. There are no more of them than bytes.
 fn check_object(part: &[u8], form: Form, modes: Modes, left: usize, faults: Faults) -> Contents
+    requires { ⌜ modes .names ≡ false ⌝ }
     ensures { λ r. ⌜ r ≡ contentsAt (fieldsIn form (now (part .entry))) modes left faults ⌝ }
 {
     let mut at = 0;
@@ -89,7 +92,7 @@ fn check_object(part: &[u8], form: Form, modes: Modes, left: usize, faults: Faul
             }
         }
     }
-    Contents::Read(contents::end_object(part, form, modes, met, run))
+    Contents::Read(contents::end_object(form, modes, met, run, false))
 }
 
 // The items of an array, which fill the part.
@@ -101,6 +104,7 @@ fn check_array(
     left: usize,
     faults: Faults,
 ) -> Contents
+    requires { ⌜ modes .names ≡ false ⌝ }
     ensures { λ r. ⌜ r ≡ contentsAt (itemsIn form count (now (part .entry))) modes left faults ⌝ }
 {
     let size = contents::item_size(form);
@@ -132,4 +136,15 @@ fn check_array(
         return Contents::Stop(Stop::Early);
     }
     Contents::Read(contents::end_array(form, modes, met, run))
+}
+
+// A field at the front of a part, with so many levels left, beside the faults met before.
+pub fn check(part: &[u8], form: Form, format: bool, left: usize, faults: Faults) -> Field
+    ensures { λ r. ⌜ r ≡ fieldAt form (namelessly format) left faults (now (part .entry)) ⌝ }
+{
+    let modes = Modes {
+        names: false,
+        format: format,
+    };
+    check_field(part, form, modes, left, faults)
 }

@@ -2,7 +2,6 @@
 use Prim.Native.Nat.{ℕ}
 use mathlib.Core.Path.{_≡_, sym, ap, _∙_}
 use mathlib.Core.Bool.{Bool, true, false, _&&_}
-use mathlib.Core.List.{List}
 use Rattle.format.specs.declared.Kind.{Kind}
 use Rattle.format.specs.declared.Form.{Form}
 use Rattle.format.specs.declared.Form.the-variants as G
@@ -12,7 +11,6 @@ use Rattle.faults.specs.declared.Faults.{Faults}
 use Rattle.format.specs.Reader.{isTyped}
 use Rattle.faults.specs.Noted.{noted, flawIf}
 use Rattle.faults.proofs.NotedLaws.{unasked}
-use Rattle.names.specs.FieldNames.{twinsAt}
 use Rattle.run.specs.Run.{uniform}
 use Rattle.contents.specs.declared.Contents.{Contents}
 use Rattle.contents.specs.declared.Contents.the-variants as C
@@ -45,13 +43,16 @@ module _ (f : Form) (m : Modes) (h : Faults) (u : ℕ) where
     not-uniform : v ≡ noted m h (flawIf (isTyped f && uniform true u) NotUniform)
     not-uniform = rw (k, i, j)
 
-    pub object-asked : (s : List ℕ) (r : Faults) (t : Bool) → t ≡ twinsAt f s → r ≡ noted m v (flawIf t Twin) → r ≡ objectEnd f m h u s
+    pub object-ended : (r : Faults) (t : Bool) → r ≡ noted m v (flawIf t Twin) → r ≡ objectEnd f m h u t
     unfolding objectEnd
-    object-asked s r t e w = w ∙ ap (λ x. noted m v (flawIf x Twin)) e ∙ ap (λ x. noted m x (flawIf (twinsAt f s) Twin)) not-uniform
+    object-ended r t w = w ∙ ap (λ x. noted m x (flawIf t Twin)) not-uniform
 
-    pub object-unasked : (s : List ℕ) → m .names ≡ false → v ≡ objectEnd f m h u s
-    unfolding objectEnd
-    object-unasked s e = sym (ap (λ x. noted m x (flawIf (twinsAt f s) Twin)) (sym not-uniform) ∙ unasked m v (twinsAt f s) Twin e)
+  -- where names are not asked about, equal ones do not matter
+  pub object-unasked : (a b : Bool) → m .names ≡ false → objectEnd f m h u a ≡ objectEnd f m h u b
+  unfolding objectEnd
+  object-unasked a b e =
+      let v : Faults = noted m h (flawIf (isTyped f && uniform true u) NotUniform) in
+      unasked m v a Twin e ∙ sym (unasked m v b Twin e)
 
   pub array-ended : (r : Faults) (a b : Bool) → a ≡ isTyped f → b ≡ uniform false u → r ≡ noted m h (flawIf (a && b) NotUniform) → r ≡ arrayEnd f m h u
   unfolding arrayEnd

@@ -1,6 +1,6 @@
 -- No second answer, for what is said of the contents of a container.
 use Prim.Native.Nat.{ℕ}
-use mathlib.Core.List.{List}
+use mathlib.Core.Bool.{Bool}
 use Rattle.number.proofs.OneAnswer.{One, one}
 use Rattle.format.specs.declared.Kind.{Kind}
 use Rattle.format.specs.declared.Form.{Form}
@@ -17,8 +17,8 @@ module _ (form : Form) where
   item-size-one = one (itemSize form)
 
   module _ (modes : Modes) (faults : Faults) (run : ℕ) where
-    pub end-object-one : (part : List ℕ) → One (objectEnd form modes faults run part)
-    end-object-one part = one (objectEnd form modes faults run part)
+    pub end-object-one : (twins : Bool) → One (objectEnd form modes faults run twins)
+    end-object-one twins = one (objectEnd form modes faults run twins)
 
     pub end-array-one : One (arrayEnd form modes faults run)
     end-array-one = one (arrayEnd form modes faults run)

@@ -1,7 +1,6 @@
 -- What is said of the contents of a container: of the fields of an object and of the items of an array together.
 use Prim.Native.Nat.{ℕ, _/_, _%_}
-use mathlib.Core.Bool.{true, false, _&&_, cond}
-use mathlib.Core.List.{List}
+use mathlib.Core.Bool.{Bool, true, false, _&&_, cond}
 use lib.Dec.{eqb, ltb}
 use Rattle.format.specs.declared.Kind.{Kind}
 use Rattle.format.specs.declared.Form.{Form}
@@ -17,7 +16,6 @@ use Rattle.contents.specs.declared.Field.{Field}
 use Rattle.contents.specs.declared.Field.the-variants as F
 use Rattle.contents.specs.declared.Contents.{Contents}
 use Rattle.contents.specs.declared.Contents.the-variants as C
-use Rattle.names.specs.FieldNames.{twinsAt}
 use Rattle.run.specs.Run.{uniform}
 
 -- a container of which the contents were checked
@@ -27,8 +25,9 @@ closed k e (C.Read h) = F.Read k e h
 
 -- ---- the fields of an object, the items of an array, together
 
-unfoldable pub objectEnd : Form → Modes → Faults → ℕ → List ℕ → Faults
-objectEnd f m h u s = noted m (noted m h (flawIf (isTyped f && uniform true u) NotUniform)) (flawIf (twinsAt f s) Twin)
+-- b: two of the names are equal
+unfoldable pub objectEnd : Form → Modes → Faults → ℕ → Bool → Faults
+objectEnd f m h u b = noted m (noted m h (flawIf (isTyped f && uniform true u) NotUniform)) (flawIf b Twin)
 
 unfoldable pub arrayEnd : Form → Modes → Faults → ℕ → Faults
 arrayEnd f m h u = noted m h (flawIf (isTyped f && uniform false u) NotUniform)

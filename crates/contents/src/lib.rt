@@ -50,9 +50,9 @@ pub fn close(contents: Contents, kind: Kind, end: usize) -> Field
     }
 }
 
-// The fields of an object were read, and this is said of all of them. Names that nobody asks about are not compared.
-pub fn end_object(part: &[u8], form: Form, modes: Modes, faults: Faults, run: u8) -> Faults
-    ensures { λ r. ⌜ r ≡ objectEnd form modes faults run (now (part .entry)) ⌝ }
+// The fields of an object were read, and this is said of all of them.
+pub fn end_object(form: Form, modes: Modes, faults: Faults, run: u8, twins: bool) -> Faults
+    ensures { λ r. ⌜ r ≡ objectEnd form modes faults run twins ⌝ }
 {
     let met = faults::note(
         modes,
@@ -60,11 +60,7 @@ pub fn end_object(part: &[u8], form: Form, modes: Modes, faults: Faults, run: u8
         Flaw::NotUniform,
         is_typed(form) & run::is_uniform(true, run),
     );
-    if modes.names {
-        faults::note(modes, met, Flaw::Twin, names::twins(part, form))
-    } else {
-        met
-    }
+    faults::note(modes, met, Flaw::Twin, twins)
 }
 
 pub fn end_array(form: Form, modes: Modes, faults: Faults, run: u8) -> Faults

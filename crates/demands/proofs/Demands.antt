@@ -59,8 +59,8 @@ use Rattle.hexadecimal.specs.Typing.{start}
 use Rattle.answers.specs.Answer.{answered}
 use Rattle.program.specs.Input.{fedParts, joined}
 use Rattle.program.proofs.InParts as programs
-use Rattle.cabi.specs.Sent.{sent}
-use Rattle.cabi.proofs.Refusals as calls
+use Rattle.sending.specs.Sent.{sent}
+use Rattle.sending.proofs.Refusals as calls
 use Rattle.read.proofs.AnyStep.{Stepped}
 use Rattle.read.proofs.AnyStep as steps
 use Rattle.frames.specs.Describe.{listOf}
@@ -80,6 +80,7 @@ use Rattle.frames.proofs.Refusals as frames
 -- tests/contracts, a part of the gate, lists every public call with its contract, and fails on a `requires`, on a missing `ensures`, and on a call that is not
 -- named here:
 --   validate::validate                                  r ≡ mask modes payload                                        crates/validate/src/lib.rt
+--   validate::validate_with                             answer, table ≡ maskWith modes payload table
 --   Place::top                                          r ≡ top payload                                               crates/places/src/lib.rt
 --   open::checked                                       r ≡ checked payload place                                     crates/open/src/lib.rt
 --   read::step, lookup                                  r ≡ step payload container last, ...                          crates/read/src/lib.rt
@@ -91,8 +92,8 @@ use Rattle.frames.proofs.Refusals as frames
 --   answers::answer                                     text, output, work ≡ answered typing list text output work
 -- The calls for C answer the same in numbers (crates/cabi/src/lib.rt; the numbers are in the specs/ of replies and place_replies), and what is lent for an
 -- answer holds that answer or what it held:
---   ajuqvane_validate, ajuqvane_check, ajuqvane_top, ajuqvane_step, ajuqvane_view, ajuqvane_lookup, ajuqvane_double, ajuqvane_signed, ajuqvane_unsigned,
---   ajuqvane_ticks, ajuqvane_write, ajuqvane_varuint, ajuqvane_is_text, ajuqvane_are_equal, ajuqvane_float32_holds, ajuqvane_widen
+--   ajuqvane_validate, ajuqvane_validate_with, ajuqvane_check, ajuqvane_top, ajuqvane_step, ajuqvane_view, ajuqvane_lookup, ajuqvane_double, ajuqvane_signed,
+--   ajuqvane_unsigned, ajuqvane_ticks, ajuqvane_write, ajuqvane_varuint, ajuqvane_is_text, ajuqvane_are_equal, ajuqvane_float32_holds, ajuqvane_widen
 -- What these calls share, crate by crate from the bottom up:
 --   number::read, read32, read64, minus_plus_one, ticks; encode::length, put; text::is_text, are_equal;
 --   float::float32_holds, is_nan32, is_nan64, widen, narrow, of_integer; format::known_of, flags_of, kind_at, id_of, is_bare, stop_value, class_of;
@@ -100,11 +101,15 @@ use Rattle.frames.proofs.Refusals as frames
 --   hexadecimal::character_of, nothing, feed;
 --   container::container_id, type_flags, shared_flags, size_of, pack, size_in, width_in, shared_in, is_uniform_in, store, number_at, clear;
 --   leaves::fixed, positive, negative, float64, text_leaf, custom_by_id, custom_by_name; printing::put_refused, put_encoding;
---   head::fixed_size, meet_of, head_of; Place::of, places::placed; names::name_at, twins;
---   order::entry, begin_of, compare, arrange; passing::name_at; select::name_at, first_twin;
---   frame::kind_of, name_of, name_at, name_end, leaf_of, leaf_at, leaf_end, bits_of; open::open_place; settle::decided; measure::measure;
+--   head::fixed_size, meet_of, head_of; Place::of, places::placed; names::name_at;
+--   entries::entry, begin_of, lesser, compare, is_upto, ascends, is_first, first_twin, clear; order::arrange; tables::second, are_fit; divide::first_twin;
+--   passing::name_at; select::name_at, first_twin; notes::held, add, first_twin; used::place_of;
+--   frame::kind_of, name_of, name_at, name_end, front_at, leaf_of, leaf_at, leaf_end, bits_of; open::open_place; settle::decided; measure::measure;
+--   output::copy, bits_at, final_id;
 --   replies::number_of, varuint, double, signed, unsigned, ticks;
---   contents::close, end_object, end_array, item_size, check_sizes; checks::check_field; place_replies::after_of, checked, top, step, part, found
+--   contents::close, end_object, end_array, item_size, check_sizes; checks::check; place_replies::after_of, checked, top, step, part, found;
+--   basic_calls::varuint, is_text, are_equal, float32_holds; place_calls::check, top, step, view, lookup; value_calls::double, signed, unsigned, ticks;
+--   sending::send
 -- ajuqvane_write_list is the program: it reads, calls `hexadecimal::feed` and `answers::answer`, and writes; no contract can say what is read or written.
 -- "A refused read writes nothing": none of the reading calls is lent anything to write to. The calls for C write their answer's numbers only (`told`,
 -- crates/replies/specs/Reply.antt).

@@ -6,7 +6,7 @@ use Rattle.frames.specs.Writer.{refuse, wrote}
 use Rattle.number.specs.VarUInt.{varUInt}
 use Rattle.replies.specs.Number.{tooFew, afterwards}
 use Rattle.replies.specs.Reply.{given, noMore, notThere, wrongKind, outOfRange, told, varuint}
-use Rattle.cabi.specs.Sent.{sent}
+use Rattle.sending.specs.Sent.{sent}
 use Rattle.program.specs.Input.{statusOf}
 
 -- no more, not there, wrong kind, out of range, too few numbers lent

@@ -3,4 +3,5 @@ pub mod NameReturns
 pub mod LeafHeadings
 mod LeafReturns
 mod PositionReturns
+mod FrontReturns
 pub mod OneAnswer

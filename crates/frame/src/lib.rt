@@ -11,6 +11,7 @@ ghost use mathlib.Core.Path.{_≡_};
 ghost use Prim.Native.Nat.{_≤_};
 ghost use lib.ListN.{length, drop};
 ghost use Rattle.frames.specs.FramePieces.{writable};
+ghost use Rattle.frame.specs.Front.{frontAt};
 ghost use Rattle.frame.specs.Pieces.{allModes, noModes, nameOf, nameAt, nameEnd, leafFrameOf, leafFrameAt, leafEnd, bitsIn};
 
 // ---- what the reading of a leaf or a name is asked for
@@ -121,6 +122,50 @@ pub fn name_end(part: &[u8]) -> usize
             start,
             faults: _,
         } => start,
+    }
+}
+
+// ---- a frame up to its payload
+
+// Its kind, where its name begins, and where its payload starts, which is where the name ends.
+pub enum Frame {
+    Refused(Refusal),
+    Read {
+        kind: Kind,
+        begin: usize,
+        start: usize,
+    },
+}
+
+// The frame at a position of the list, with so many levels left, whatever names were used; inside an object it has a name. Positions in the answer are the list's.
+pub fn front_at(list: &[u8], at: usize, named: bool, left: u32) -> Frame
+    ensures { λ r. ⌜ r ≡ frontAt left (now (list .entry)) at named ⌝ }
+{
+    if left == 0 {
+        return Frame::Refused(Refusal::TooDeep);
+    }
+    if list.len() <= at {
+        return Frame::Refused(Refusal::BadFrame);
+    }
+    match kind_of(list[at]) {
+        Known::Unknown => Frame::Refused(Refusal::BadFrame),
+        Known::Is(kind) => {
+            if named {
+                return match name_at(list, at + 1) {
+                    Name::Refused(refusal) => Frame::Refused(refusal),
+                    Name::At { begin, end } => Frame::Read {
+                        kind: kind,
+                        begin: begin,
+                        start: end,
+                    },
+                };
+            }
+            Frame::Read {
+                kind: kind,
+                begin: at + 1,
+                start: at + 1,
+            }
+        }
     }
 }
 

@@ -1,231 +1,238 @@
--- The first pass, a field: what the code knows at each return.
-use Prim.Native.Nat.{ℕ, zero, suc, _+_, _-_, _*_, _/_, _%_, _≤_, _<_}
+-- The first pass, a frame and its payload: what the code knows at each return.
+use Prim.Native.Nat.{ℕ, zero, suc, _+_, _-_, _≤_, _<_}
 use native.Mathlib.Omega.{arith}
 use native.Mathlib.Nat.{add-zero}
 use mathlib.Core.Path.{_≡_, refl, sym, ap, _∙_}
 use mathlib.Core.Bool.{Bool, true, false, _||_, cond}
-use mathlib.Core.Option.{Option, some}
-use mathlib.Core.List.{List, _∷_, _++_}
-use lib.ListN.{length, drop, getD, length-append, length-drop}
-use lib.Seq.{drop-drop, drop-append-seam}
-use lib.Dec.{eqb}
-use borrow.Author.Tests.{eqb-true, eqb-false}
+use mathlib.Core.Option.{none}
+use mathlib.Core.List.{List, [], _∷_}
+use lib.ListN.{length, drop, length-append, length-drop}
 use Rattle.number.proofs.Clash.{clash}
+use Rattle.number.specs.BigEndian.{Bytes}
+use Rattle.number.specs.VarUInt.{encoded}
 use Rattle.format.specs.declared.Kind.{Kind}
-use Rattle.format.specs.declared.Kind.the-variants.{Null, Object, UniformObject, Array, UniformArray, Binary, String, IntegerPositive, IntegerNegative, Float32, Float64, False, True, ObjectAttachment, BinaryAttachment, Hash, Uuid, DateTime, TimeSpan, ObjectId, CustomById, CustomByName}
-use Rattle.frames.specs.declared.Refusal.{Refusal}
-use Rattle.frames.specs.declared.Refusal.the-variants.{TooDeep, BadFrame, NotText}
-use Rattle.format.specs.Kinds.{id}
-use Rattle.format.specs.Mask.{has}
-use Rattle.format.specs.declared.Flaw.{Flaw}
 use Rattle.format.specs.declared.Flaw.the-variants.{Long, Low, NotUtf8}
+use Rattle.format.specs.Kinds.{id, known}
+use Rattle.format.specs.Mask.{has}
 use Rattle.format.specs.Parse.{Out, fault, got}
 use Rattle.format.specs.Payload.{leaf, payload}
 use Rattle.format.specs.Tree.{Leaf, atom, Tree}
-use Rattle.frames.specs.WriteList.{Frames, refused, framed, next, isWritable, leafFound, framePayload, FrameReader, readFrames}
-use Rattle.measure.specs.declared.Frame.{Frame}
-use Rattle.measure.specs.declared.Frame.the-variants as F
-use Rattle.frame.specs.declared.LeafFrame.{LeafFrame}
-use Rattle.settle.specs.declared.Measured.{Measured}
-use Rattle.settle.specs.declared.Measured.the-variants as M
+use Rattle.frames.specs.declared.Refusal.{Refusal}
+use Rattle.frames.specs.declared.Refusal.the-variants.{TooDeep, BadFrame, NotText}
+use Rattle.frames.specs.WriteList.{Frames, refused, framed, next, isWritable, frameKind, leafFound, framePayload, frame, readFrames}
 use Rattle.frames.specs.Container.{namePart}
-use Rattle.measure.specs.Names.{usedAt, nameIn, Stack, Pushed, FrameAt, frameBy, topAfter}
-use Rattle.frame.specs.Pieces.{leafMet, leafFrameAt}
-use Rattle.frames.specs.FramePieces.{modeOf, frameFront, IsLeaf, containerOf}
-use Rattle.measure.specs.Passes.{leafMeasured, LeafSmall, payloadMeasured, fieldMeasured, payloadWork, fieldWork, FieldBy, FieldAt, ContentsAt, Lent}
-use Rattle.frames.proofs.Flaws.{untrue}
+use Rattle.frames.specs.FramePieces.{modeOf, frameFront, IsLeaf}
 use Rattle.frames.proofs.LeafLaws.{leaf-of}
 use Rattle.frames.proofs.FrontLaws.{never, next-got, front-got, withName, frame-front, front-rests, array-payload, leaf-kind, object-payload}
 use Rattle.frames.proofs.PlaceLaws.{bytes-drop, place, tail-at}
 use Rattle.frames.proofs.Used.{leaf-short, kind-object, kind-array}
+use Rattle.twins.specs.Own.{ownName}
+use Rattle.used.proofs.ReadLaws.{front-none, deep-none}
+use Rattle.frame.specs.declared.LeafFrame.{LeafFrame}
+use Rattle.frame.specs.Pieces.{leafMet, leafFrameAt}
+use Rattle.settle.specs.declared.Measured.{Measured}
+use Rattle.settle.specs.declared.Measured.the-variants as M
+use Rattle.frame.specs.declared.Frame.{Frame}
+use Rattle.frame.specs.declared.Frame.the-variants as F
+use Rattle.frame.specs.Front.{frontMet, frontBy, frontAt}
+use Rattle.measure.specs.Passes.{leafMeasured, LeafSmall, PayloadBy, FieldBy, FieldAt}
+use Rattle.measure.specs.Passes.{PayloadAt, ContentsAt, Lent}
 
-pub field-deep : (d : ℕ) (s : List ℕ) (at : ℕ) (named : Bool) (base top k : ℕ) (names w : List ℕ) → d ≡ 0 → at < length s → FieldAt d s at named base top k names names w w (M.Refused TooDeep at)
-unfolding readFrames
-field-deep d s at named base top k names w e l = rw e (record { answer = rw (place s at (omega arith)); work = refl; stack = record { kept = λ i h. refl; new = λ x r h. never h } })
+-- ---- a frame up to its payload
 
--- ---- behind the name
+-- an item has no name
+no-name : (s n q : List ℕ) (k : Kind) → frameFront none s ≡ framed (n, k) q → n ≡ []
+no-name [] n q k h = never h
+no-name (b ∷ s) n q k h = next-got (frameKind (b ∷ s) (known b) s) _ h λ j r e i. let z : _≡_ {A = List ℕ × Kind} ([], j) (n, k) = cc in sym (ap (λ x. x .0) z)
 
-module _ (s : List ℕ) (at : ℕ) (named : Bool) (base top k : ℕ) (names names₁ : List ℕ) (l : at < length s) (lt : Lent s names at base top k) (f : Frame) (a : FrameAt s at named base top names names₁ f) where
-  abbrev mode : Option (List (List ℕ))
-  mode = modeOf named (usedAt s names base (top - base))
+name-short : (named : Bool) (n : List ℕ) → (named ≡ false → n ≡ []) → length n ≤ length (namePart named n)
+unfolding namePart
+name-short true n h = rw (length-append (encoded (length n)) n) (omega arith)
+name-short false n h = rw (h refl) (omega arith)
 
-  module _ (kind : Kind) (start above : ℕ) (i : f ≡ F.Read kind start above) where
-    record Got : Type 0 where
+module _ (d : ℕ) (s : List ℕ) (at : ℕ) (named : Bool) (l : at < length s) (f : Frame) (a : f ≡ frontAt d s at named) where
+  -- it is refused, and has no right name
+  pub record Barred (n : Refusal) : Type 0 where
+    pub whole : readFrames d (modeOf named []) (drop at s) ≡ refused n (drop at s)
+    pub unnamed : named ≡ true → ownName d (drop at s) ≡ none
+
+  pub barred : (n : Refusal) → f ≡ F.Refused n → Barred n
+  unfolding frontAt readFrames
+  barred n i = let z = go d (sym i ∙ a) in record { whole = z .0; unnamed = z .1 }
+    where
+      full : 0 < length (drop at s)
+      full = rw (length-drop at s) (omega arith)
+
+      by : (e : ℕ) (o : Frames (List ℕ × Kind)) → frameFront (modeOf named []) (drop at s) ≡ o → F.Refused n ≡ frontMet (length s) o
+          → (readFrames (suc e) (modeOf named []) (drop at s) ≡ refused n (drop at s)) × (named ≡ true → ownName (suc e) (drop at s) ≡ none)
+      by e (framed x q) j h = clash cc
+      by e (refused m q) j h =
+          let v : n ≡ m = cc in
+          let t : q ≡ drop at s = rw j at (front-rests (modeOf named []) (drop at s) full) in
+          let y : frame (readFrames e) (modeOf named []) (drop at s) ≡ refused m q = frame-front (readFrames e) (modeOf named []) (drop at s) full ∙ (rw j) in
+          (y ∙ (rw (v, t)), λ b. front-none (suc e) (drop at s) m q (rw b at j))
+
+      go : (d : ℕ) → F.Refused n ≡ frontBy d (length s) (frameFront (modeOf named []) (drop at s))
+          → (readFrames d (modeOf named []) (drop at s) ≡ refused n (drop at s)) × (named ≡ true → ownName d (drop at s) ≡ none)
+      go zero h = let v : n ≡ TooDeep = cc in (rw v, λ b. deep-none (drop at s))
+      go (suc e) h = by e (frameFront (modeOf named []) (drop at s)) refl h
+
+  -- it is read up to its payload
+  module _ (bytes : Bytes s) (kind : Kind) (begin start : ℕ) (i : f ≡ F.Read kind begin start) where
+    pub record Got : Type 0 where
+      pub level : ℕ
+      pub deep : d ≡ suc level
       pub name : List ℕ
       pub left : List ℕ
-      pub was : frameFront mode (drop at s) ≡ framed (name, kind) left
-      pub start-is : start ≡ at + 1 + length (namePart named name)
+      pub was : frameFront (modeOf named []) (drop at s) ≡ framed (name, kind) left
+      pub begin-is : begin ≡ length s - length left - length name
+      pub start-is : start ≡ length s - length left
+      pub length-is : start ≡ at + 1 + length (namePart named name)
+      pub short : length name ≤ length (namePart named name)
       pub inside : start ≤ length s
       pub tail : drop start s ≡ left
-      pub above-is : above ≡ topAfter named top
       pub good : isWritable (payload kind) ≡ true
-      pub some : named ≡ true → 2 ≤ length (namePart named name)
 
-    got-frame : Got
-    got-frame = go (frameFront mode (drop at s)) refl (sym i ∙ a .answer)
+    pub got-frame : Got
+    unfolding frontAt
+    got-frame = go d refl (sym i ∙ a)
       where
-        go : (o : Frames (List ℕ × Kind)) → frameFront mode (drop at s) ≡ o → F.Read kind start above ≡ frameBy (length s) named top o → Got
-        go (refused n r) e h = clash cc
-        go (framed x q) e h =
+        by : (e : ℕ) → d ≡ suc e → (o : Frames (List ℕ × Kind)) → frameFront (modeOf named []) (drop at s) ≡ o
+            → F.Read kind begin start ≡ frontMet (length s) o → Got
+        by e y (refused n r) j h = clash cc
+        by e y (framed x q) j h =
             let k₁ : x .1 ≡ kind = cc in
-            let z : frameFront mode (drop at s) ≡ framed (x .0, kind) q = e ∙ ap (λ (y : Kind). framed (x .0, y) q) k₁ in
-            let g = front-got named (usedAt s names base (top - base)) (drop at s) (bytes-drop s at (lt .bytes)) z in
+            let z : frameFront (modeOf named []) (drop at s) ≡ framed (x .0, kind) q = j ∙ ap (λ (y : Kind). framed (x .0, y) q) k₁ in
+            let g = front-got named [] (drop at s) (bytes-drop s at bytes) z in
             let t = tail-at s at (id kind ∷ namePart named (x .0)) q (omega arith) (g .is) in
+            let b : begin ≡ length s - length q - length (x .0) = cc in
             let n : start ≡ length s - length q = cc in
-            let y : start ≡ at + suc (length (namePart named (x .0))) = n ∙ t .0 in
-            record { name = x .0; left = q; was = z; start-is = omega arith; inside = omega (arith, t .1); tail = rw y (t .2); above-is = cc; good = g .good; some = g .some }
+            let u : start ≡ at + suc (length (namePart named (x .0))) = n ∙ t .0 in
+            record {
+              level = e;
+              deep = y;
+              name = x .0;
+              left = q;
+              was = z;
+              begin-is = b;
+              start-is = n;
+              length-is = omega arith;
+              short = name-short named (x .0) (λ c. no-name (drop at s) (x .0) q kind (rw c at z));
+              inside = omega (arith, t .1);
+              tail = rw u (t .2);
+              good = g .good;
+            }
 
-    pub frame-start : at + 1 ≤ start
-    frame-start = let g = got-frame in omega (arith, g .start-is)
+        go : (e : ℕ) → d ≡ e → F.Read kind begin start ≡ frontBy e (length s) (frameFront (modeOf named []) (drop at s)) → Got
+        go zero y h = clash cc
+        go (suc e) y h = by e y (frameFront (modeOf named []) (drop at s)) refl h
+
+    pub frame-deep : 1 ≤ d
+    frame-deep = let g = got-frame in omega (arith, g .deep)
+
+    pub frame-start : at < start
+    frame-start = let g = got-frame in omega (arith, g .length-is)
 
     pub frame-inside : start ≤ length s
     frame-inside = got-frame .inside
 
-    above-more : (g : Got) → (top ≤ above) × (3 * above ≤ start)
-    unfolding topAfter
-    above-more g = go named refl (g .above-is)
+    pub frame-good : isWritable (payload kind) ≡ true
+    frame-good = got-frame .good
+
+    pub name-after : (c : ℕ) → c ≤ at → c ≤ begin
+    name-after c q = let g = got-frame in order at (length (namePart named (g .name))) (length (g .name)) (g .begin-is) (g .start-is) (g .length-is)
+        (g .short) c q
       where
-        go : (b : Bool) → named ≡ b → above ≡ cond b (top + 1) top → (top ≤ above) × (3 * above ≤ start)
-        go true e h = (omega arith, omega (arith, g .start-is, g .some e, lt .few-names))
-        go false e h = (omega arith, omega (arith, g .start-is, lt .few-names))
+        order : (at m n : ℕ) {a b e : ℕ} → b ≡ a - n → e ≡ a → e ≡ at + 1 + m → n ≤ m → (c : ℕ) → c ≤ at → c ≤ b
+        order at m n x y z k c q = omega arith
 
-    new-stack : (g : Got) → Stack s names₁ above
-    unfolding topAfter
-    new-stack g = record { inside = λ j h. go named refl (g .above-is) j h }
+    pub name-before : begin ≤ start
+    name-before = let g = got-frame in order (length (g .name)) (g .begin-is) (g .start-is)
       where
-        old : (j : ℕ) → j < top → getD names₁ j 0 / 65536 + getD names₁ j 0 % 65536 ≤ length s
-        old j h = rw (a .stack .kept j h) (lt .stack .inside j h)
+        order : (n : ℕ) {a b e : ℕ} → b ≡ a - n → e ≡ a → b ≤ e
+        order n x y = omega arith
 
-        either : (j : ℕ) → (b : Bool) → eqb j top ≡ b → j < top + 1 → named ≡ true → getD names₁ j 0 / 65536 + getD names₁ j 0 % 65536 ≤ length s
-        either j true e h t = rw (eqb-true j top e) (a .stack .new (g .name, kind) (g .left) (g .was) t .1)
-        either j false e h t = let ne = eqb-false j top e in old j (less j ne h)
-          where
-            less : (j : ℕ) → (j ≡ top → ⊥) → j < top + 1 → j < top
-            less j ne h = omega arith
-
-        go : (b : Bool) → named ≡ b → above ≡ cond b (top + 1) top → (j : ℕ) → j < above → getD names₁ j 0 / 65536 + getD names₁ j 0 % 65536 ≤ length s
-        go true e h j q = either j (eqb j top) refl (rw h at q) e
-        go false e h j q = old j (rw h at q)
-
-    pub frame-lent : length names₁ ≡ length names → Lent s names₁ start above above k
-    frame-lent e = let g = got-frame in let m = above-more g in
-        record { bytes = lt .bytes; short = lt .short; room = omega (arith, lt .room); ordered = omega arith; few-names = m .1; few-numbers = omega (arith, lt .few-numbers, g .start-is); stack = new-stack g }
-
-    pub frame-number : k < start
-    frame-number = let g = got-frame in omega (arith, lt .few-numbers, g .start-is)
-
-    pub frame-leaf : (n : ℕ) → n ≡ id kind → (n ≡ 2 → ⊥) → (n ≡ 4 → ⊥) → IsLeaf (payload kind)
-    frame-leaf n e g h = leaf-kind kind (got-frame .good) (λ z. g (e ∙ z)) (λ z. h (e ∙ z))
-
-    -- ---- the payload
-
-    field-is : (e : ℕ) (g : Got) → readFrames (suc e) mode (drop at s) ≡ withName (g .name) (framePayload (readFrames e) (drop at s) (payload kind) (g .left))
+    -- with its payload it is the frame
+    pub field-of : (k : ℕ) (w w′ : List ℕ) (m : Measured) → PayloadAt (d - 1) s at start kind k w w′ m → FieldAt d s at named k w w′ m
     unfolding readFrames
-    field-is e g = frame-front (readFrames e) mode (drop at s) (rw (length-drop at s) (omega arith)) ∙ rw (g .was)
-
-    before-is : (before : ℕ) → before ≡ start - (at + 1) → (g : Got) → before ≡ length (namePart named (g .name))
-    before-is before e g = omega (arith, g .start-is)
-
-    -- the names below stay, and the field's own stays too
-    pushed : {A : Type 0} (g : Got) (names₂ : List ℕ) (o : Frames A) → ((j : ℕ) → j < above → getD names₂ j 0 ≡ getD names₁ j 0) → Pushed s named top names names₂ (withName (g .name) o)
-    unfolding topAfter
-    pushed {A} g names₂ o h = record { kept = λ j q. h j (omega (arith, above-more g .0)) ∙ a .stack .kept j q; new = λ x r e t. own x r e t }
+    field-of k w w′ m y =
+        let g = got-frame in
+        let z : d - 1 ≡ g .level = omega (arith, g .deep) in
+        let b : start - (at + 1) ≡ length (namePart named (g .name)) = omega (arith, g .length-is) in
+        let o : readFrames (suc (g .level)) (modeOf named []) (drop at s) ≡ withName (g .name)
+        (framePayload (readFrames (g .level)) (drop at s) (payload kind) (g .left)) =
+        frame-front (readFrames (g .level)) (modeOf named []) (drop at s) (rw (length-drop at s) (omega arith)) ∙ (rw (g .was)) in
+        rw (g .deep, o) (by (g .level) (g .name) (framePayload (readFrames (g .level)) (drop at s) (payload kind) (g .left)) (rw (z, g .tail, b) at y))
       where
-        top-in : named ≡ true → top < above
-        top-in t = let z : above ≡ top + 1 = g .above-is ∙ rw t in omega arith
+        by : (e : ℕ) (n : List ℕ) (o : Frames (Tree (suc e))) → PayloadBy (suc e) (length s) (length (namePart named n)) k w w′ m o
+            → FieldBy (suc e) (length s) named k w w′ m (withName n o)
+        by e n (refused j r) h = record { answer = h .answer; work = h .work }
+        by e n (framed t r) h = record { answer = h .answer; work = h .work }
 
-        own : (x : List ℕ × A) (r : List ℕ) → withName (g .name) o ≡ framed x r → named ≡ true → (nameIn s (getD names₂ top 0) ≡ x .0) × (getD names₂ top 0 / 65536 + getD names₂ top 0 % 65536 ≤ length s)
-        own x r e t = next-got o _ e λ u q y z.
-            let n = a .stack .new (g .name, kind) (g .left) (g .was) t in
-            let m : g .name ≡ x .0 = cc in
-            let v = h top (top-in t) in
-            (rw v (n .0 ∙ m), rw v (n .1))
+  pub field-refused : (k : ℕ) (w : List ℕ) (n : Refusal) → f ≡ F.Refused n → FieldAt d s at named k w w (M.Refused n at)
+  field-refused k w n i = let b = barred n i in rw (b .whole) (record { answer = ap (M.Refused n) (sym (place s at (omega arith))); work = refl })
 
-    module _ (d : ℕ) (nz : d ≡ 0 → ⊥) (before : ℕ) (eb : before ≡ start - (at + 1)) where
-      by-depth : (P : ℕ → Type 0) → ((e : ℕ) → d ≡ suc e → P (suc e)) → P d
-      by-depth P c = go d nz c
-        where
-          go : (d : ℕ) → (d ≡ 0 → ⊥) → ((e : ℕ) → d ≡ suc e → P (suc e)) → P d
-          go zero nz c = absurd (nz refl)
-          go (suc e) nz c = c e refl
+-- ---- a payload
 
-      module _ (names₂ w w′ : List ℕ) (m : Measured) where
-        from-container : (e : ℕ) (b : Bool) (g : Got) → framePayload (readFrames e) (drop at s) (payload kind) (g .left) ≡ containerOf b (readFrames e) (g .left)
-            → ContentsAt e s start before b above k names₁ names₂ w w′ m → FieldAt (suc e) s at named base top k names names₂ w w′ m
-        from-container e b g eq c = go (containerOf b (readFrames e) (g .left)) (ap (λ (t : List ℕ). containerOf b (readFrames e) t) (g .tail)) (field-is e g ∙ ap (λ (o : Frames (Tree (suc e))). withName (g .name) o) eq) c
-          where
-            by : (o : Frames (Tree (suc e))) → m ≡ payloadMeasured (suc e) (length s) before above k o → w′ ≡ payloadWork (suc e) k w w′ o
-                → (m ≡ fieldMeasured (suc e) (length s) named top k (withName (g .name) o)) × (w′ ≡ fieldWork (suc e) k w w′ (withName (g .name) o))
-            by (refused n r) h q = (h, q)
-            by (framed t r) h q = (h ∙ rw (before-is before eb g, g .above-is), q)
+-- what the code asks for it
+abbrev Asked : List ℕ → ℕ → ℕ → Kind → ℕ → Type 0
+Asked s at start kind k = (at < start) × (start ≤ length s) × (isWritable (payload kind) ≡ true) × Lent s at k
 
-            go : (o : Frames (Tree (suc e))) → containerOf b (readFrames e) (drop start s) ≡ o → readFrames (suc e) mode (drop at s) ≡ withName (g .name) o
-                → ContentsAt e s start before b above k names₁ names₂ w w′ m → FieldAt (suc e) s at named base top k names names₂ w w′ m
-            go o e₁ e₂ c =
-                let z = by o (c .answer ∙ ap (payloadMeasured (suc e) (length s) before above k) e₁) (c .work ∙ ap (payloadWork (suc e) k w w′) e₁) in
-                rw e₂ (record { answer = z .0; work = z .1; stack = pushed g names₂ o (c .kept) })
+-- and for its contents
+pub contents-lent : (s : List ℕ) (at start : ℕ) (kind : Kind) (k : ℕ) → Asked s at start kind k
+    → (start ≤ length s) × (start - (at + 1) ≤ start) × (k < start) × Lent s start k
+contents-lent s at start kind k (l, i, good, lt) =
+    (i, omega arith, omega (arith, lt .few-numbers), record { bytes = lt .bytes; short = lt .short; few-numbers = omega (arith, lt .few-numbers) })
 
-        pub field-object : (n : ℕ) → n ≡ id kind → n ≡ 2 → (b : Bool) → b ≡ true → ContentsAt (d - 1) s start before b above k names₁ names₂ w w′ m → FieldAt d s at named base top k names names₂ w w′ m
-        field-object n en i2 b ib c = by-depth (λ d. FieldAt d s at named base top k names names₂ w w′ m) λ e ed.
-            let z : d - 1 ≡ e = omega arith in
-            let ko : kind ≡ Object = kind-object kind (sym en ∙ i2) in
-            from-container e true got-frame (object-payload (readFrames e) (drop at s) kind _ ko) (rw (z, ib) at c)
+module _ (d : ℕ) (s : List ℕ) (at start : ℕ) (kind : Kind) (k : ℕ) where
+  module _ (before : ℕ) (eb : before ≡ start - (at + 1)) (w w′ : List ℕ) (m : Measured) (n : ℕ) (en : n ≡ id kind) where
+    pub payload-object : n ≡ 2 → (b : Bool) → b ≡ true → ContentsAt d s start before b k w w′ m → PayloadAt d s at start kind k w w′ m
+    payload-object i b ib c = rw (object-payload (readFrames d) (drop at s) kind (drop start s) (kind-object kind (sym en ∙ i)), ← eb) (rw ib at c)
 
-        pub field-array : (n : ℕ) → n ≡ id kind → n ≡ 4 → (b : Bool) → b ≡ false → ContentsAt (d - 1) s start before b above k names₁ names₂ w w′ m → FieldAt d s at named base top k names names₂ w w′ m
-        field-array n en i4 b ib c = by-depth (λ d. FieldAt d s at named base top k names names₂ w w′ m) λ e ed.
-            let z : d - 1 ≡ e = omega arith in
-            let ko : kind ≡ Array = kind-array kind (sym en ∙ i4) in
-            from-container e false got-frame (array-payload (readFrames e) (drop at s) kind _ ko) (rw (z, ib) at c)
+    pub payload-array : n ≡ 4 → (b : Bool) → b ≡ false → ContentsAt d s start before b k w w′ m → PayloadAt d s at start kind k w w′ m
+    payload-array i b ib c = rw (array-payload (readFrames d) (drop at s) kind (drop start s) (kind-array kind (sym en ∙ i)), ← eb) (rw ib at c)
 
-      module _ (x : LeafFrame) (ex : x ≡ leafFrameAt kind s start) (il : IsLeaf (payload kind)) where
-        leaf-met : (p : List ℕ → Out Leaf) → payload kind ≡ leaf p → (g : Got) → x ≡ leafMet (length s) (leafFound (drop start s) (p (g .left)))
-        unfolding leafFrameAt
-        leaf-met p ep g = ex ∙ rw ep (ap (λ (t : List ℕ). leafMet (length s) (leafFound (drop start s) (p t))) (g .tail))
+  module _ (asked : Asked s at start kind k) (x : LeafFrame) (ex : x ≡ leafFrameAt kind s start) (n : ℕ) (en : n ≡ id kind) (n2 : n ≡ 2 → ⊥) (n4 : n ≡ 4 → ⊥)
+      (before : ℕ) (eb : before ≡ start - (at + 1)) where
+    lt : Lent s at k
+    lt = asked .3
 
-        pub leaf-sum : LeafSmall x before
-        leaf-sum = leaf-of kind il λ p ep. let g = got-frame in go (leafFound (drop start s) (p (g .left))) p ep g refl (leaf-met p ep g)
-          where
-            go : (o : Frames Leaf) (p : List ℕ → Out Leaf) → payload kind ≡ leaf p → (g : Got) → leafFound (drop start s) (p (g .left)) ≡ o → x ≡ leafMet (length s) o → LeafSmall x before
-            go (refused n r) p ep g e h = rw h (omega arith)
-            go (framed v r) p ep g e h =
-                let z = leaf-short kind p ep (drop start s) (g .left) (rw (g .tail) at (bytes-drop s start (lt .bytes))) e in
-                let n : length (g .left) ≡ length (z .0) + length r = ap length (z .1) ∙ length-append (z .0) r in
-                let t : length (drop start s) ≡ length (g .left) = ap length (g .tail) in
-                rw h (omega (arith, z .2, lt .short, g .inside, length-drop start s))
+    il : IsLeaf (payload kind)
+    il = leaf-kind kind (asked .2) (λ z. n2 (en ∙ z)) (λ z. n4 (en ∙ z))
 
-        pub field-leaf : (w : List ℕ) (m : Measured) → m ≡ leafMeasured at before above k x → FieldAt d s at named base top k names names₁ w w m
-        field-leaf w m em = by-depth (λ d. FieldAt d s at named base top k names names₁ w w m) λ e ed. leaf-of kind il λ p ep. let g = got-frame in
-            rw (field-is e g, ep) (go e p g (em ∙ ap (leafMeasured at before above k) (leaf-met p ep g)))
-          where
-            same : (e : ℕ) (g : Got) (a b c : Bool) (v : Leaf) (fs : List Flaw) (r : List ℕ)
-                → m ≡ leafMeasured at before above k (leafMet (length s) (cond (a || b) (refused BadFrame (drop start s)) (cond c (refused NotText (drop start s)) (framed v r))))
-                → (m ≡ fieldMeasured (suc e) (length s) named top k (withName (g .name) (next (cond (a || b) (refused BadFrame (drop at s)) (cond c (refused NotText (drop at s)) (framed v r))) λ v u. framed (atom v) u)))
-                × (w ≡ fieldWork (suc e) k w w (withName (g .name) (next (cond (a || b) (refused BadFrame (drop at s)) (cond c (refused NotText (drop at s)) (framed v r))) λ v u. framed (atom v) u)))
-            same e g true b c v fs r h = (h ∙ rw (place s at (omega arith)), refl)
-            same e g false true c v fs r h = (h ∙ rw (place s at (omega arith)), refl)
-            same e g false false true v fs r h = (h ∙ rw (place s at (omega arith)), refl)
-            same e g false false false v fs r h = (h ∙ rw (before-is before eb g, g .above-is, add-zero k), refl)
+    leaf-met : (p : List ℕ → Out Leaf) → payload kind ≡ leaf p → x ≡ leafMet (length s) (leafFound (drop start s) (p (drop start s)))
+    unfolding leafFrameAt
+    leaf-met p ep = ex ∙ (rw ep)
 
-            cases : (e : ℕ) (g : Got) (o : Out Leaf) → m ≡ leafMeasured at before above k (leafMet (length s) (leafFound (drop start s) o))
-                → (m ≡ fieldMeasured (suc e) (length s) named top k (withName (g .name) (next (leafFound (drop at s) o) λ v u. framed (atom v) u)))
-                × (w ≡ fieldWork (suc e) k w w (withName (g .name) (next (leafFound (drop at s) o) λ v u. framed (atom v) u)))
-            cases e g (fault j) h = (h ∙ rw (place s at (omega arith)), refl)
-            cases e g (got v fs r) h = same e g (has Long fs) (has Low fs) (has NotUtf8 fs) v fs r h
+    pub leaf-sum : LeafSmall x before
+    leaf-sum = leaf-of kind il λ p ep. go (leafFound (drop start s) (p (drop start s))) p ep refl (leaf-met p ep)
+      where
+        go : (o : Frames Leaf) (p : List ℕ → Out Leaf) → payload kind ≡ leaf p → leafFound (drop start s) (p (drop start s)) ≡ o → x ≡ leafMet (length s) o
+            → LeafSmall x before
+        go (refused n r) p ep e h = rw h (omega arith)
+        go (framed v r) p ep e h =
+            let z = leaf-short kind p ep (drop start s) (drop start s) (bytes-drop s start (lt .bytes)) e in
+            let n : length (drop start s) ≡ length (z .0) + length r = ap length (z .1) ∙ length-append (z .0) r in
+            rw h (omega (arith, z .2, lt .short, length-drop start s, asked .0, asked .1))
 
-            go : (e : ℕ) (p : List ℕ → Out Leaf) (g : Got) → m ≡ leafMeasured at before above k (leafMet (length s) (leafFound (drop start s) (p (g .left))))
-                → FieldBy (suc e) s named top k names names₁ w w m (withName (g .name) (next (leafFound (drop at s) (p (g .left))) λ v u. framed (atom v) u))
-            go e p g h = let z = cases e g (p (g .left)) h in record { answer = z .0; work = z .1; stack = pushed g names₁ (next (leafFound (drop at s) (p (g .left))) λ v u. framed (atom v) u) (λ j q. refl) }
+    pub leaf-is : (w : List ℕ) (m : Measured) → m ≡ leafMeasured at before k x → PayloadAt d s at start kind k w w m
+    leaf-is w m em = leaf-of kind il λ p ep. rw (ep, ← eb) (cases (p (drop start s)) (em ∙ ap (leafMeasured at before k) (leaf-met p ep)))
+      where
+        By : Frames Leaf → Type 0
+        By o = PayloadBy (suc d) (length s) before k w w m (next o λ v u. framed (atom v) u)
 
-  pub field-refused : (d : ℕ) → (d ≡ 0 → ⊥) → (n : Refusal) → f ≡ F.Refused n → (w : List ℕ) → FieldAt d s at named base top k names names₁ w w (M.Refused n at)
-  unfolding readFrames
-  field-refused d nz n i w = go d nz (frameFront mode (drop at s)) refl (sym i ∙ a .answer)
-    where
-      go : (d : ℕ) → (d ≡ 0 → ⊥) → (o : Frames (List ℕ × Kind)) → frameFront mode (drop at s) ≡ o → F.Refused n ≡ frameBy (length s) named top o → FieldAt d s at named base top k names names₁ w w (M.Refused n at)
-      go zero nz o e h = absurd (nz refl)
-      go (suc d) nz (framed x q) e h = clash cc
-      go (suc d) nz (refused j r) e h =
-          let c : 0 < length (drop at s) = rw (length-drop at s) (omega arith) in
-          let t : r ≡ drop at s = rw e at (front-rests mode (drop at s) c) in
-          let y : readFrames (suc d) mode (drop at s) ≡ refused j r = frame-front (readFrames d) mode (drop at s) c ∙ rw e in
-          let v : n ≡ j = cc in
-          rw y (record { answer = rw (v, t, place s at (omega arith)); work = refl; stack = record { kept = a .stack .kept; new = λ x q z. never z } })
+        place-is : length s - length (drop at s) ≡ at
+        place-is = place s at (omega (arith, asked .0, asked .1))
+
+        same : (a b c : Bool) (v : Leaf) (r : List ℕ)
+            → m ≡ leafMeasured at before k (leafMet (length s) (cond (a || b) (refused BadFrame (drop start s))
+            (cond c (refused NotText (drop start s)) (framed v r))))
+            → By (cond (a || b) (refused BadFrame (drop at s)) (cond c (refused NotText (drop at s)) (framed v r)))
+        same true b c v r h = record { answer = h ∙ rw place-is; work = refl }
+        same false true c v r h = record { answer = h ∙ rw place-is; work = refl }
+        same false false true v r h = record { answer = h ∙ rw place-is; work = refl }
+        same false false false v r h = record { answer = h ∙ rw (add-zero k); work = refl }
+
+        cases : (o : Out Leaf) → m ≡ leafMeasured at before k (leafMet (length s) (leafFound (drop start s) o)) → By (leafFound (drop at s) o)
+        cases (fault j) h = record { answer = h ∙ rw place-is; work = refl }
+        cases (got v fs r) h = same (has Long fs) (has Low fs) (has NotUtf8 fs) v r h

@@ -1,9 +1,11 @@
 mod SmallLaws
 mod ContainerFits
-mod StackCases
-mod FrameCases
+mod NameCases
 mod FieldCases
 mod LoopState
 mod LoopLaws
+mod NameLaws
+mod EndLaws
+mod LoopReturns
 mod Settling
 pub mod OneAnswer

@@ -17,11 +17,11 @@ pub width-most : (n w : ℕ) → w ≡ length (encoded n) → w ≤ 9
 width-most n w e = rw e (encoded-length n .1)
 
 -- a leaf
-pub leaf-refused : (l : LeafFrame) (at before top k : ℕ) (n : _) → l ≡ L.Refused n → M.Refused n at ≡ leafMeasured at before top k l
-leaf-refused l at before top k n e = rw e
+pub leaf-refused : (l : LeafFrame) (at before k : ℕ) (n : _) → l ≡ L.Refused n → M.Refused n at ≡ leafMeasured at before k l
+leaf-refused l at before k n e = rw e
 
-pub leaf-read : (l : LeafFrame) (at before top k e i z : ℕ) → l ≡ L.Read e i z → M.Read e i (before + z) top k ≡ leafMeasured at before top k l
-leaf-read l at before top k e i z h = rw h
+pub leaf-read : (l : LeafFrame) (at before k e i z : ℕ) → l ≡ L.Read e i z → M.Read e i (before + z) k ≡ leafMeasured at before k l
+leaf-read l at before k e i z h = rw h
 
 pub leaf-small : (l : LeafFrame) (before e i z : ℕ) → l ≡ L.Read e i z → LeafSmall l before → before + z ≤ 1048576
 leaf-small l before e i z h q = rw h at q

@@ -1,53 +1,38 @@
--- What the code answers of a frame up to its payload, and of the names that an object has so far, by a position of the list.
-use Prim.Native.Nat.{ℕ, zero, suc, _+_, _-_, _/_, _%_, _≤_, _<_}
-use mathlib.Core.Path.{_≡_}
-use mathlib.Core.Bool.{Bool, true, cond}
-use mathlib.Core.List.{List, [], _∷_}
-use lib.ListN.{length, drop, take, getD}
-use Rattle.format.specs.declared.Kind.{Kind}
-use Rattle.frames.specs.WriteList.{Frames, refused, framed}
-use Rattle.measure.specs.declared.Frame.{Frame}
-use Rattle.frames.specs.FramePieces.{modeOf, frameFront, nameFront}
-use Rattle.measure.specs.declared.Frame.the-variants as F
+-- What the code answers inside: of a name that is noted; and at an object's end, of a name that stands there twice. Nothing here
+-- has to be believed: no public contract cites it.
+use Prim.Native.Nat.{ℕ, _+_, _-_}
+use mathlib.Core.Bool.{Bool, cond}
+use mathlib.Core.List.{List}
+use lib.ListN.{length, take}
+use lib.Dec.{ltb}
+use Rattle.frames.specs.declared.Refusal.the-variants.{NameUsed}
+use Rattle.entries.specs.Entry.{entryOf}
+use Rattle.entries.specs.Least.{lesser}
+use Rattle.select.specs.declared.Source.the-variants as S
+use Rattle.notes.specs.declared.Notes.{Notes}
+use Rattle.notes.specs.Notes.{heldIn, Noting, noting, added, told}
+use Rattle.used.specs.Place.{framePlace}
+use Rattle.settle.specs.declared.Measured.{Measured}
+use Rattle.settle.specs.declared.Measured.the-variants as M
 
--- ---- a name
+-- ---- the names of the object whose frames stand in the part s
 
--- a name's number is where the name begins, scaled by this, and how long it is
-abbrev pub nameRadix : ℕ
-nameRadix = 65536
+-- one that stands from b to e
+abbrev pub notedBy : Bool → List ℕ → List ℕ → Notes → ℕ → ℕ → Noting
+notedBy named s t notes b e = cond named (added s t notes (entryOf s b e)) (noting notes t)
 
--- a name as its number says: where it begins, and how long it is
-abbrev pub nameIn : List ℕ → ℕ → List ℕ
-nameIn s x = take (x % nameRadix) (drop (x / nameRadix) s)
+-- a twin that begins at g is refused; 16777216 if there is none
+abbrev pub twinMeasured : ℕ → List ℕ → ℕ → ℕ → Measured → Measured
+twinMeasured d s at g m = cond (ltb g 16777216) (M.Refused NameUsed (at + framePlace d s g)) m
 
--- the last n names from `base` on, the newest first
-unfoldable pub usedAt : List ℕ → List ℕ → ℕ → ℕ → List (List ℕ)
-usedAt s names base zero = []
-usedAt s names base (suc n) = nameIn s (getD names (base + n) 0) ∷ usedAt s names base n
+-- how many of `total` numbers are lent for that: two for each name, which takes three bytes at least; and those that are held
+unfoldable pub roomFor : ℕ → ℕ → ℕ → ℕ
+roomFor total held reach = cond (ltb held reach) (lesser total reach) (lesser total held)
 
--- the first `top` numbers are of names that stand in the list
-pub record Stack (s names : List ℕ) (top : ℕ) : Type 0 where
-  pub inside : (i : ℕ) → i < top → getD names i 0 / nameRadix + getD names i 0 % nameRadix ≤ length s
+-- where the first twin begins
+abbrev pub twinBy : ℕ → List ℕ → List ℕ → Notes → ℕ → ℕ
+twinBy d s t notes reach = told (S.Frames d (reach - 1)) s (take (roomFor (length t) (heldIn notes) reach) t) notes .answer
 
--- ---- a frame up to its payload
-
--- how many names there are after a field
-unfoldable pub topAfter : Bool → ℕ → ℕ
-topAfter named top = cond named (top + 1) top
-
-abbrev pub frameBy : ℕ → Bool → ℕ → Frames (List ℕ × Kind) → Frame
-frameBy total named top (refused n r) = F.Refused n
-frameBy total named top (framed x r) = F.Read (x .1) (total - length r) (topAfter named top)
-
--- the numbers of the names afterwards: those below stay, and a new one is that of the name
-pub record Pushed {A : Type 0} (s : List ℕ) (named : Bool) (top : ℕ) (names names′ : List ℕ) (o : Frames (List ℕ × A)) : Type 0 where
-  pub kept : (i : ℕ) → i < top → getD names′ i 0 ≡ getD names i 0
-  pub new : (x : List ℕ × A) (r : List ℕ) → o ≡ framed x r → named ≡ true → (nameIn s (getD names′ top 0) ≡ x .0) × (getD names′ top 0 / nameRadix + getD names′ top 0 % nameRadix ≤ length s)
-
-pub record NamedAt (s : List ℕ) (at : ℕ) (kind : Kind) (base top : ℕ) (names names′ : List ℕ) (f : Frame) : Type 0 where
-  pub answer : (g : List ℕ) → f ≡ frameBy (length s) true top (nameFront g kind (usedAt s names base (top - base)) (drop at s))
-  pub stack : (g : List ℕ) → Pushed s true top names names′ (nameFront g kind (usedAt s names base (top - base)) (drop at s))
-
-pub record FrameAt (s : List ℕ) (at : ℕ) (named : Bool) (base top : ℕ) (names names′ : List ℕ) (f : Frame) : Type 0 where
-  pub answer : f ≡ frameBy (length s) named top (frameFront (modeOf named (usedAt s names base (top - base))) (drop at s))
-  pub stack : Pushed s named top names names′ (frameFront (modeOf named (usedAt s names base (top - base))) (drop at s))
+-- the names of the frames that begin before `reach` were noted
+unfoldable pub endedBy : Bool → ℕ → List ℕ → ℕ → List ℕ → Notes → ℕ → Measured → Measured
+endedBy named d s at t notes reach m = cond named (cond (ltb 0 reach) (twinMeasured d s at (twinBy d s t notes reach) m) m) m

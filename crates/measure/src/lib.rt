@@ -1,112 +1,91 @@
 // The writer's first pass ("The write list"): it checks every frame, and settles the containers' sizes and all IDs. It cannot reach the output.
 use format::Kind;
-use format::Known;
+use frame::Frame;
 use frame::LeafFrame;
-use frame::Name;
 use frames::Refusal;
+use notes::Notes;
+use select::Source;
 use settle::Measured;
 use settle::Settled;
 ghost use mathlib.Core.Path.{_≡_};
-ghost use Prim.Native.Nat.{_+_, _-_, _*_, _≤_, _<_};
-ghost use lib.ListN.{length};
-ghost use Rattle.number.specs.BigEndian.{Bytes};
+ghost use mathlib.Core.Bool.{true, false};
+ghost use Prim.Native.Nat.{_+_, _-_, _≤_, _<_};
+ghost use lib.ListN.{length, drop};
 ghost use Rattle.number.specs.VarUInt.{encoded};
-ghost use Rattle.text.specs.Equal.{equal};
-ghost use Rattle.format.specs.Kinds.{any};
 ghost use Rattle.format.specs.Payload.{payload};
-ghost use Rattle.front.specs.Between.{between};
 ghost use Rattle.frames.specs.Container.{sizeBy, packed};
-ghost use Rattle.frames.specs.FramePieces.{IsLeaf};
-ghost use Rattle.measure.specs.Names.{usedAt, Stack, NamedAt, FrameAt};
-ghost use Rattle.measure.specs.Passes.{leafMeasured, LeafSmall, FieldAt, ContentsAt, Lent};
+ghost use Rattle.frames.specs.WriteList.{isWritable};
+ghost use Rattle.notes.specs.Notes.{noting};
+ghost use Rattle.measure.specs.Names.{notedBy, roomFor, endedBy};
+ghost use Rattle.measure.specs.Passes.{leafMeasured, LeafSmall, PayloadAt, FieldAt, ContentsAt, Lent};
 ghost use Rattle.measure.specs.Settle.{measurement, settledWithin, settled};
 
-// ---- a name
+// ---- the names of an object. They are noted while its frames are read, and at its end the first frame is told whose name it has already
 
-// A name's number is where the name begins, scaled by this, and how long it is.
-const NAME: u32 = 65536;
-
-fn whole(x: u32) -> usize
-    ensures { λ r. ⌜ (r ≡ x) × (r < 4294967296) ⌝ }
-{
-    x as usize
-}
-
-// The names of the objects that are open stand one behind the other in `names`, each as where it begins and how long it is. Those of the
-// innermost object stand from `base` up to `top`.
-fn is_used(list: &[u8], names: &[u32], base: usize, top: usize, begin: usize, end: usize) -> bool
-    requires { ⌜ (base ≤ top) × (top ≤ length (now names)) × (begin ≤ end) × (end ≤ length (now list)) × Stack (now list) (now names) top ⌝ }
-    ensures { λ r. ⌜ r ≡ any (equal (between begin end (now (list .entry)))) (usedAt (now (list .entry)) (now (names .entry)) base (top - base)) ⌝ }
-{
-    let mut i = top;
-    while base < i {
-        let x = names[i - 1];
-        let from = whole(x / NAME);
-        let to = from + whole(x % NAME);
-        if text::are_equal(&list[begin..end], &list[from..to]) {
-            return true;
-        }
-        i -= 1;
-    }
-    false
-}
-
-// A frame up to its payload: its kind, where the payload starts, and how many names there are now.
-pub enum Frame {
-    Refused(Refusal),
-    Read {
-        kind: Kind,
-        start: usize,
-        top: usize,
-    },
-}
-
-// Behind the kind: the name, which is kept beside those of its object.
-fn named_at(list: &[u8], at: usize, kind: Kind, names: &mut [u32], base: usize, top: usize) -> Frame
-    requires { ⌜ (0 < at) × (at ≤ length (now list)) × Bytes (now list) × (length (now list) ≤ 65536) × (base ≤ top) × (top < length (now names)) × Stack (now list) (now names) top ⌝ }
-    ensures { λ r. ⌜ NamedAt (now (list .entry)) at kind base top (now (names .entry)) (now (names .exit)) r ⌝ }
-{
-    match frame::name_at(list, at) {
-        Name::Refused(refusal) => Frame::Refused(refusal),
-        Name::At { begin, end } => {
-            if is_used(list, names, base, top, begin, end) {
-                return Frame::Refused(Refusal::NameUsed);
-            }
-            names[top] = (begin * (NAME as usize) + (end - begin)) as u32;
-            Frame::Read {
-                kind: kind,
-                start: end,
-                top: top + 1,
-            }
-        }
-    }
-}
-
-// The frame at a position; inside an object it has a name.
-fn frame_at(
+// The name of a frame, which stands from one place of the list to another. The object's frames begin at `at`.
+fn note(
     list: &[u8],
     at: usize,
     named: bool,
-    names: &mut [u32],
-    base: usize,
-    top: usize,
-) -> Frame
-    requires { ⌜ (at < length (now list)) × Bytes (now list) × (length (now list) ≤ 65536) × (base ≤ top) × (top < length (now names)) × Stack (now list) (now names) top ⌝ }
-    ensures { λ r. ⌜ FrameAt (now (list .entry)) at named base top (now (names .entry)) (now (names .exit)) r ⌝ }
+    table: &mut [u64],
+    notes: Notes,
+    begin: usize,
+    end: usize,
+) -> Notes
+    requires { ⌜ (at ≤ length (now list)) × (at ≤ begin) × (begin ≤ end) ⌝ }
+    ensures { λ r. ⌜ noting r (now (table .exit)) ≡ notedBy named (drop at (now (list .entry))) (now (table .entry)) notes (begin - at) (end - at) ⌝ }
 {
-    match frame::kind_of(list[at]) {
-        Known::Unknown => Frame::Refused(Refusal::BadFrame),
-        Known::Is(kind) => {
-            if named {
-                return named_at(list, at + 1, kind, names, base, top);
-            }
-            Frame::Read {
-                kind: kind,
-                start: at + 1,
-                top: top,
-            }
-        }
+    if named {
+        let part = &list[at..];
+        return notes::add(
+            part,
+            table,
+            notes,
+            entries::entry(part, begin - at, end - at),
+        );
     }
+    notes
+}
+
+// How much of a table the names of frames that begin before `reach` need: two numbers for each, which takes three bytes at least; and the notes.
+fn room_for(numbers: usize, held: usize, reach: usize) -> usize
+    ensures { λ r. ⌜ r ≡ roomFor numbers held reach ⌝ }
+{
+    if held < reach {
+        return entries::lesser(numbers, reach);
+    }
+    entries::lesser(numbers, held)
+}
+
+// What the object comes to, once its frames that begin before `reach` were noted: refused for a name, or what was measured.
+fn ended(
+    list: &[u8],
+    at: usize,
+    named: bool,
+    table: &mut [u64],
+    notes: Notes,
+    reach: usize,
+    left: u32,
+    measured: Measured,
+) -> Measured
+    requires { ⌜ at ≤ length (now list) ⌝ }
+    ensures { λ r. ⌜ r ≡ endedBy named left (drop at (now (list .entry))) at (now (table .entry)) notes reach measured ⌝ }
+{
+    if named {
+        if reach == 0 {
+            return measured;
+        }
+        let part = &list[at..];
+        let room = room_for(table.len(), notes::held(notes), reach);
+        let source = Source::Frames(left, reach - 1);
+        let twin = notes::first_twin(part, source, &mut table[..room], notes);
+        if twin < 16777216 {
+            let place = used::place_of(part, left, twin);
+            return Measured::Refused(Refusal::NameUsed, at + place);
+        }
+        return measured;
+    }
+    measured
 }
 
 // ---- a leaf and a container
@@ -135,9 +114,9 @@ fn pack(named: bool, shared: u8, count: usize, size: usize) -> u32
 
 // ---- the pass
 
-fn measured_leaf(leaf: LeafFrame, at: usize, before: usize, top: usize, opened: usize) -> Measured
+fn measured_leaf(leaf: LeafFrame, at: usize, before: usize, opened: usize) -> Measured
     requires { ⌜ LeafSmall leaf before ⌝ }
-    ensures { λ r. ⌜ r ≡ leafMeasured at before top opened leaf ⌝ }
+    ensures { λ r. ⌜ r ≡ leafMeasured at before opened leaf ⌝ }
 {
     match leaf {
         LeafFrame::Refused(refusal) => Measured::Refused(refusal, at),
@@ -145,58 +124,35 @@ fn measured_leaf(leaf: LeafFrame, at: usize, before: usize, top: usize, opened: 
             next: end,
             id: id,
             size: before + size,
-            top: top,
             opened: opened,
         },
     }
 }
 
-// The field at a position: it is checked, and what it takes as encoded is settled. Its containers' numbers go from k on.
-fn measure_field(
+// The payload of the frame at a position, from `start` on; `left` levels are left inside it. It is checked, and what it takes as encoded is settled, with the
+// name before it. Its containers' numbers go from k on.
+fn measure_payload(
     list: &[u8],
     at: usize,
-    named: bool,
-    names: &mut [u32],
-    base: usize,
-    top: usize,
+    start: usize,
+    kind: Kind,
+    table: &mut [u64],
     work: &mut [u32],
     k: usize,
     left: u32,
 ) -> Measured
-    requires { ⌜ (at < length (now list)) × Lent (now list) (now names) at base top k ⌝ }
-    ensures { λ r. ⌜ FieldAt left (now (list .entry)) at named base top k (now (names .entry)) (now (names .exit)) (now (work .entry)) (now (work .exit)) r ⌝ }
+    requires { ⌜ (at < start) × (start ≤ length (now list)) × (isWritable (payload kind) ≡ true) × Lent (now list) at k ⌝ }
+    ensures { λ r. ⌜ PayloadAt left (now (list .entry)) at start kind k (now (work .entry)) (now (work .exit)) r ⌝ }
 {
-    if left == 0 {
-        return Measured::Refused(Refusal::TooDeep, at);
+    let before = start - (at + 1);
+    let id = format::id_of(kind);
+    if id == 2 {
+        return measure_contents(list, start, before, true, table, work, k, left);
     }
-    match frame_at(list, at, named, names, base, top) {
-        Frame::Refused(refusal) => Measured::Refused(refusal, at),
-        Frame::Read {
-            kind,
-            start,
-            top: above,
-        } => {
-            let before = start - (at + 1);
-            let id = format::id_of(kind);
-            if id == 2 {
-                return measure_contents(list, start, before, true, names, above, work, k, left - 1);
-            }
-            if id == 4 {
-                return measure_contents(
-                    list,
-                    start,
-                    before,
-                    false,
-                    names,
-                    above,
-                    work,
-                    k,
-                    left - 1,
-                );
-            }
-            measured_leaf(frame::leaf_at(list, start, kind), at, before, above, k)
-        }
+    if id == 4 {
+        return measure_contents(list, start, before, false, table, work, k, left);
     }
+    measured_leaf(frame::leaf_at(list, start, kind), at, before, k)
 }
 
 // The fields of an object or the items of an array, up to the close. The name before it takes `before` bytes.
@@ -205,18 +161,18 @@ fn measure_contents(
     at: usize,
     before: usize,
     named: bool,
-    names: &mut [u32],
-    base: usize,
+    table: &mut [u64],
     work: &mut [u32],
     k: usize,
     left: u32,
 ) -> Measured
-    requires { ⌜ (at ≤ length (now list)) × (before ≤ at) × (k < at) × Lent (now list) (now names) at base base k ⌝ }
-    ensures { λ r. ⌜ ContentsAt left (now (list .entry)) at before named base k (now (names .entry)) (now (names .exit)) (now (work .entry)) (now (work .exit)) r ⌝ }
+    requires { ⌜ (at ≤ length (now list)) × (before ≤ at) × (k < at) × Lent (now list) at k ⌝ }
+    ensures { λ r. ⌜ ContentsAt left (now (list .entry)) at before named k (now (work .entry)) (now (work .exit)) r ⌝ }
 {
     let mut p = at;
     let mut j = k + 1;
-    let mut top = base;
+    let mut notes = Notes::Few(0);
+    let mut reach: usize = 0;
     let mut count: usize = 0;
     let mut sum: usize = 0;
     let mut shared: u8 = 0;
@@ -224,48 +180,82 @@ fn measure_contents(
         if list[p] == 0 {
             let size = size_of(named, shared, count, sum);
             container::store(work, k, pack(named, shared, count, size));
-            return Measured::Read {
+            let closed = Measured::Read {
                 next: p + 1,
                 id: container::container_id(named, run::is_uniform(named, shared)),
                 size: before + (width(size) + size),
-                top: base,
                 opened: j,
             };
+            return ended(list, at, named, table, notes, reach, left, closed);
         }
-        match measure_field(list, p, named, names, base, top, work, j, left) {
-            Measured::Refused(refusal, place) => {
-                return Measured::Refused(refusal, place);
+        match frame::front_at(list, p, named, left) {
+            Frame::Refused(refusal) => {
+                let refused = Measured::Refused(refusal, p);
+                return ended(list, at, named, table, notes, reach, left, refused);
             }
-            Measured::Read {
-                next,
-                id,
-                size,
-                top: above,
-                opened,
-            } => {
-                p = next;
-                j = opened;
-                top = above;
-                count += 1;
-                sum += size;
-                shared = run::join(shared, id);
+            Frame::Read { kind, begin, start } => {
+                notes = note(list, at, named, table, notes, begin, start);
+                reach = p - at + 1;
+                let held = notes::held(notes);
+                match measure_payload(list, p, start, kind, &mut table[held..], work, j, left - 1) {
+                    Measured::Refused(refusal, place) => {
+                        let refused = Measured::Refused(refusal, place);
+                        return ended(list, at, named, table, notes, reach, left, refused);
+                    }
+                    Measured::Read {
+                        next,
+                        id,
+                        size,
+                        opened,
+                    } => {
+                        p = next;
+                        j = opened;
+                        count += 1;
+                        sum += size;
+                        shared = run::join(shared, id);
+                    }
+                }
             }
         }
     }
-    Measured::Refused(Refusal::ListEnds, p)
+    ended(
+        list,
+        at,
+        named,
+        table,
+        notes,
+        reach,
+        left,
+        Measured::Refused(Refusal::ListEnds, p),
+    )
 }
 
 // ---- the whole
 
-// A list that is not too long, with room for its names.
+// The top field of a list that is not empty.
+fn measure_top(list: &[u8], table: &mut [u64], work: &mut [u32], left: u32) -> Measured
+    requires { ⌜ (0 < length (now list)) × Lent (now list) 0 0 ⌝ }
+    ensures { λ r. ⌜ FieldAt left (now (list .entry)) 0 false 0 (now (work .entry)) (now (work .exit)) r ⌝ }
+{
+    match frame::front_at(list, 0, false, left) {
+        Frame::Refused(refusal) => Measured::Refused(refusal, 0),
+        Frame::Read {
+            kind,
+            begin: _,
+            start,
+        } => measure_payload(list, 0, start, kind, table, work, 0, left - 1),
+    }
+}
+
+// A list that is not too long. The table is for the names of its objects: a longer one saves time.
 fn measure_within(
     list: &[u8],
     room: usize,
     work: &mut [u32],
-    names: &mut [u32],
+    table: &mut [u64],
     left: u32,
 ) -> Settled
-    requires { ⌜ (length (now list) ≤ 65536) × (length (now list) ≤ 3 * length (now names)) ⌝ }
+    requires { ⌜ length (now list) ≤ 65536 ⌝ }
     ensures { λ r. ⌜ measurement r (now (work .exit)) ≡ settledWithin left (now (list .entry)) room (now (work .entry)) ⌝ }
 {
     container::clear(work);
@@ -275,7 +265,7 @@ fn measure_within(
     if list[0] == 0 {
         return Settled::Refused(Refusal::NoneOpen, 0);
     }
-    let measured = measure_field(list, 0, false, names, 0, 0, work, 0, left);
+    let measured = measure_top(list, table, work, left);
     let answer = settle::decided(measured, list.len(), room, work.len());
     match answer {
         Settled::Refused(refusal, place) => {
@@ -289,7 +279,7 @@ fn measure_within(
     }
 }
 
-// A name takes three bytes of the list at least: a list of up to so many bytes has room enough for its names in the smaller array.
+// A list of up to so many bytes has few names: a small table does for them.
 const SHORT: usize = 1536;
 
 // The first pass over any list. The output has `room` bytes. What is left in the work numbers is for the second pass, or all zero at a refusal.
@@ -301,9 +291,9 @@ pub fn measure(list: &[u8], room: usize, work: &mut [u32]) -> Settled
         return Settled::Refused(Refusal::ListTooLong, 0);
     }
     if list.len() <= SHORT {
-        let mut names = [0u32; 512];
-        return measure_within(list, room, work, &mut names, format::DEPTH);
+        let mut table = [0u64; 256];
+        return measure_within(list, room, work, &mut table, format::DEPTH);
     }
-    let mut names = [0u32; 21846];
-    measure_within(list, room, work, &mut names, format::DEPTH)
+    let mut table = [0u64; 18432];
+    measure_within(list, room, work, &mut table, format::DEPTH)
 }

@@ -1,6 +1,5 @@
 pub mod NameBound
 pub mod NameFound
 pub mod NameApart
-pub mod NameWalk
 pub mod ReadNames
 pub mod OneAnswer

@@ -91,7 +91,7 @@ name-found f s {b} {e} {n} h = at (meeting f s) refl h
 
 -- ---- the name at a position
 
-name-is : (f : Form) (m : Modes) (g : Faults) (s : List ℕ) → nameOf (meetAt f m g s) ≡ nameIn (length s) (meeting f s)
+pub name-is : (f : Form) (m : Modes) (g : Faults) (s : List ℕ) → nameOf (meetAt f m g s) ≡ nameIn (length s) (meeting f s)
 unfolding meetAt
 name-is f m g s = at (meeting f s)
   where

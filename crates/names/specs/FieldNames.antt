@@ -32,7 +32,7 @@ fieldNames f s = namesAt f (length s) s
 unfoldable pub twinsAt : Form → List ℕ → Bool
 twinsAt f s = twins (fieldNames f s)
 
--- ---- where the code finds them. Nothing here has to be believed: the contract of `twins` names none of it
+-- ---- where the code finds them
 
 abbrev pub endedAt : ℕ → ℕ → ℕ → Name
 endedAt b e n = cond (eqb n 0) N.Nothing (N.At b e n)

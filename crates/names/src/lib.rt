@@ -1,13 +1,11 @@
-// Whether two fields that stand in a part have equal names.
+// Where the name of a field stands.
 use faults::Modes;
 use format::Form;
 use head::Met;
 ghost use mathlib.Core.Path.{_≡_};
 ghost use Prim.Native.Nat.{_≤_};
 ghost use lib.ListN.{length};
-ghost use Rattle.format.specs.Kinds.{any};
-ghost use Rattle.text.specs.Equal.{equal};
-ghost use Rattle.names.specs.FieldNames.{endedAt, nameOf, nameAt, fieldNames, twinsAt};
+ghost use Rattle.names.specs.FieldNames.{endedAt, nameOf, nameAt};
 
 // A field's name: where it begins and ends, and where the next field stands. Or no field is met.
 pub enum Name {
@@ -88,46 +86,4 @@ pub fn name_at(part: &[u8], at: usize, form: Form) -> Name
             next: at + next,
         },
     }
-}
-
-// A field that stands in the part has this name.
-fn has<'a>(part: &'a [u8], form: Form, name: &'a [u8]) -> bool
-    ensures { λ r. ⌜ r ≡ any (equal (now (name .entry))) (fieldNames form (now (part .entry))) ⌝ }
-{
-    let mut from = 0;
-    while from < part.len() {
-        match name_at(part, from, form) {
-            Name::Nothing => {
-                return false;
-            }
-            Name::At { begin, end, next } => {
-                if text::are_equal(name, &part[begin..end]) {
-                    return true;
-                }
-                from = next;
-            }
-        }
-    }
-    false
-}
-
-// Two fields that stand in the part have equal names. (An item's name is empty, so any two items would have.)
-pub fn twins(part: &[u8], form: Form) -> bool
-    ensures { λ r. ⌜ r ≡ twinsAt form (now (part .entry)) ⌝ }
-{
-    let mut at = 0;
-    while at < part.len() {
-        match name_at(part, at, form) {
-            Name::Nothing => {
-                return false;
-            }
-            Name::At { begin, end, next } => {
-                if has(&part[next..], form, &part[begin..end]) {
-                    return true;
-                }
-                at = next;
-            }
-        }
-    }
-    false
 }

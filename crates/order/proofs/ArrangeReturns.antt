@@ -8,10 +8,11 @@ use lib.Seq.{take-take, length-take-le}
 use borrow.Author.Tests.{lt-ltb, le-ltb}
 use Rattle.order.specs.declared.Arranged.{Arranged}
 use Rattle.order.specs.declared.Arranged.the-variants.{NoRoom, Done}
-use Rattle.order.specs.Arranged.{least, before, kept, ordered, settled, Afterwards, afterwards, arranged}
+use Rattle.entries.specs.Least.{least}
+use Rattle.order.specs.Arranged.{before, kept, ordered, settled, Afterwards, afterwards, arranged}
 use Rattle.order.specs.Passes.{Holds, Sorts, Tells, Keeps}
 use Rattle.order.proofs.SortedLaws.{ordered-sorted, ordered-perm}
-use Rattle.order.proofs.LeastLaws.{least-alike}
+use Rattle.entries.proofs.LeastLaws.{least-alike}
 use Rattle.order.proofs.KeptLaws.{before-ordered, before-length}
 
 module _ (s t : List ℕ) (n : ℕ) where

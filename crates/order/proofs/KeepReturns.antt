@@ -9,7 +9,7 @@ use lib.ListN.{length, take, drop, getD, set, length-set}
 use lib.Seq.{take-suc, take-suc-set, take-set-le, drop-set-lt, drop-drop, getD-drop, length-take-le}
 use lib.Dec.{ltb}
 use borrow.Author.Tests.{lt-ltb, le-ltb}
-use Rattle.order.specs.Entry.{beginIn}
+use Rattle.entries.specs.Entry.{beginIn}
 use Rattle.order.specs.Arranged.{before}
 use Rattle.order.specs.Passes.{countBefore, Keeps}
 use Rattle.order.proofs.KeptLaws.{before-append}

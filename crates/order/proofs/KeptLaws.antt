@@ -7,12 +7,14 @@ use mathlib.Core.List.{List, [], _∷_, _++_}
 use lib.ListN.{length}
 use lib.Dec.{ltb}
 use borrow.Author.Tests.{ltb-true, ltb-false, lt-ltb, le-ltb}
-use Rattle.order.specs.Entry.{beginIn, nameIn}
-use Rattle.order.specs.Arranged.{sameName, least, before, kept, ordered}
-use Rattle.order.specs.Sorted.{Below, Sorted, Perm, done, keep, swap, then, In, here, there}
-use Rattle.order.proofs.Perms.{perm-same, perm-length}
+use Rattle.entries.specs.Entry.{beginIn, nameIn}
+use Rattle.entries.specs.Least.{sameName, least}
+use Rattle.order.specs.Arranged.{before, kept, ordered}
+use Rattle.entries.specs.Among.{Perm, done, keep, swap, then, In, here, there}
+use Rattle.order.specs.Sorted.{Below, Sorted}
+use Rattle.entries.proofs.Perms.{perm-same, perm-length}
 use Rattle.order.proofs.SortedLaws.{ordered-sorted, ordered-perm, ordered-only}
-use Rattle.order.proofs.LeastLaws.{begin-below, named-same, is-first, least-pair}
+use Rattle.entries.proofs.LeastLaws.{begin-below, named-same, is-first, least-pair}
 
 module _ (p e : ℕ) (es : List ℕ) where
   pub before-in : beginIn e < p → before p (e ∷ es) ≡ e ∷ before p es

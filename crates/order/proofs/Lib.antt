@@ -1,11 +1,6 @@
-pub mod OrderLaws
-pub mod EntryLaws
-pub mod Perms
 pub mod SortedLaws
-pub mod LeastLaws
 pub mod NeighbourLaws
 pub mod KeptLaws
-mod CompareReturns
 mod CopyReturns
 mod MergeReturns
 mod JoinReturns

@@ -7,28 +7,15 @@ use mathlib.Core.List.{List, [], _∷_, _++_}
 use lib.Dec.{ltb}
 use borrow.Author.Tests.{ltb-true, ltb-false}
 use Rattle.number.proofs.Clash.{clash}
-use Rattle.order.specs.Entry.{beginIn, nameIn}
-use Rattle.order.specs.Order.{upto}
-use Rattle.order.specs.Arranged.{isFirst, lesser, least}
-use Rattle.order.specs.Sorted.{Below, Sorted, In, here, there}
-use Rattle.order.proofs.OrderLaws.{Upto, upto-is, between}
-use Rattle.order.proofs.LeastLaws.{first-is, is-first, upto-begins, one-begin, lesser-left, lesser-right, lesser-both}
-use Rattle.order.proofs.LeastLaws.{least-bound, least-over, least-pair, least-more}
-
--- ---- an entry among those of two lists
-
-pub in-left : {e : ℕ} (xs ys : List ℕ) → In e xs → In e (xs ++ ys)
-in-left (x ∷ xs) ys here = here
-in-left (x ∷ xs) ys (there i) = there (in-left xs ys i)
-
-pub in-last : (xs : List ℕ) (y : ℕ) → In y (xs ++ (y ∷ []))
-in-last [] y = here
-in-last (x ∷ xs) y = there (in-last xs y)
-
-pub in-cases : {X : Type 0} (e : ℕ) (xs : List ℕ) (y : ℕ) → In e (xs ++ (y ∷ [])) → (In e xs → X) → (e ≡ y → X) → X
-in-cases e [] y here f g = g refl
-in-cases e (x ∷ xs) y here f g = f here
-in-cases e (x ∷ xs) y (there i) f g = in-cases e xs y i (λ j. f (there j)) g
+use Rattle.entries.specs.Entry.{beginIn, nameIn}
+use Rattle.entries.specs.Order.{upto}
+use Rattle.entries.specs.Least.{isFirst, lesser, least}
+use Rattle.entries.specs.Among.{In, here, there}
+use Rattle.order.specs.Sorted.{Below, Sorted}
+use Rattle.entries.proofs.Perms.{in-left, in-last, in-cases}
+use Rattle.entries.proofs.OrderLaws.{Upto, upto-is, between}
+use Rattle.entries.proofs.LeastLaws.{first-is, is-first, upto-begins, one-begin, lesser-left, lesser-right, lesser-both}
+use Rattle.entries.proofs.LeastLaws.{least-bound, least-over, least-pair, least-more}
 
 -- in a sorted list all before the last are up to it
 pub sorted-last : (s xs : List ℕ) (y : ℕ) → Sorted s (xs ++ (y ∷ [])) → (z : ℕ) → In z xs → Upto s z y

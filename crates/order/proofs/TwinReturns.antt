@@ -8,12 +8,14 @@ use mathlib.Core.List.{List, [], _∷_, _++_}
 use lib.ListN.{length, take, drop, getD, take-append-drop}
 use lib.Seq.{take-suc, take-take}
 use borrow.Author.Tests.{lt-ltb, le-ltb}
-use Rattle.order.specs.Entry.{beginIn}
-use Rattle.order.specs.Arranged.{isFirst, isTwin, lesser, leastOf, least}
-use Rattle.order.specs.Sorted.{Sorted, In}
+use Rattle.entries.specs.Entry.{beginIn}
+use Rattle.entries.specs.Least.{isFirst, isTwin, lesser, leastOf, least}
+use Rattle.entries.specs.Among.{In}
+use Rattle.order.specs.Sorted.{Sorted}
 use Rattle.order.specs.Passes.{leastNext, Tells}
-use Rattle.order.proofs.OrderLaws.{Upto, upto-refl}
-use Rattle.order.proofs.NeighbourLaws.{in-last, in-cases, sorted-last, sorted-left, next-first, next-not}
+use Rattle.entries.proofs.OrderLaws.{Upto, upto-refl}
+use Rattle.entries.proofs.Perms.{in-last, in-cases}
+use Rattle.order.proofs.NeighbourLaws.{sorted-last, sorted-left, next-first, next-not}
 
 module _ (s : List ℕ) (x y l : ℕ) (o : Bool) (h : o ≡ isFirst s x y) where
   next-first-is : o ≡ true → leastNext s x y l ≡ lesser (beginIn y) l

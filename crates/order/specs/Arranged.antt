@@ -1,37 +1,14 @@
 -- A table, arranged: its entries in order, up to the first that has the name of one before it in the part.
 use Prim.Native.Nat.{ℕ, _-_, _*_, _/_}
-use mathlib.Core.Bool.{Bool, false, cond, _&&_, _||_}
+use mathlib.Core.Bool.{cond}
 use mathlib.Core.List.{List, [], _∷_, _++_}
 use lib.ListN.{length, take, drop, replicate}
 use lib.Dec.{ltb}
-use Rattle.text.specs.Equal.{equal}
-use Rattle.order.specs.Entry.{beginIn, nameIn}
-use Rattle.order.specs.Order.{upto}
+use Rattle.entries.specs.Entry.{beginIn}
+use Rattle.entries.specs.Least.{least}
+use Rattle.entries.specs.Order.{upto}
 use Rattle.order.specs.declared.Arranged.{Arranged}
 use Rattle.order.specs.declared.Arranged.the-variants.{NoRoom, Done}
-
-abbrev pub sameName : List ℕ → ℕ → ℕ → Bool
-sameName s x y = equal (nameIn s x) (nameIn s y)
-
--- x begins before e and has its name
-unfoldable pub isFirst : List ℕ → ℕ → ℕ → Bool
-isFirst s x e = ltb (beginIn x) (beginIn e) && sameName s x e
-
--- some entry does
-unfoldable pub isTwin : List ℕ → List ℕ → ℕ → Bool
-isTwin s [] e = false
-isTwin s (x ∷ t) e = isFirst s x e || isTwin s t e
-
-abbrev pub lesser : ℕ → ℕ → ℕ
-lesser a b = cond (ltb a b) a b
-
--- where the first of some entries begins that is a twin in t; 16777216 if none is
-unfoldable pub leastOf : List ℕ → List ℕ → List ℕ → ℕ
-leastOf s t [] = 16777216
-leastOf s t (e ∷ es) = cond (isTwin s t e) (lesser (beginIn e) (leastOf s t es)) (leastOf s t es)
-
-abbrev pub least : List ℕ → List ℕ → ℕ
-least s t = leastOf s t t
 
 -- the entries that begin before a place
 unfoldable pub before : ℕ → List ℕ → List ℕ

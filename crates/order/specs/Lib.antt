@@ -1,5 +1,3 @@
-pub mod Entry
-pub mod Order
 pub mod Arranged
 pub mod Sorted
 pub mod Passes

@@ -5,9 +5,10 @@ use mathlib.Core.Bool.{Bool, true, false, cond}
 use mathlib.Core.List.{List, _++_}
 use lib.ListN.{length, take, drop, getD}
 use lib.Dec.{ltb}
-use Rattle.order.specs.Entry.{beginIn}
-use Rattle.order.specs.Order.{upto}
-use Rattle.order.specs.Arranged.{isFirst, lesser, ordered, least, before}
+use Rattle.entries.specs.Entry.{beginIn}
+use Rattle.entries.specs.Order.{upto}
+use Rattle.entries.specs.Least.{isFirst, lesser, least}
+use Rattle.order.specs.Arranged.{ordered, before}
 use Rattle.order.specs.Sorted.{Sorted}
 
 -- the first n numbers are entries, and from `room` on there is room for as many

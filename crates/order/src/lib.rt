@@ -3,119 +3,16 @@ ghost use mathlib.Core.Path.{_≡_};
 ghost use mathlib.Core.List.{_++_};
 ghost use Prim.Native.Nat.{_+_, _-_, _*_, _≤_, _<_};
 ghost use lib.ListN.{length, take, replicate};
-ghost use Rattle.order.specs.Entry.{beginIn, bytesAt, nameIn, entryOf};
-ghost use Rattle.order.specs.Order.{order, upto};
-ghost use Rattle.order.specs.Arranged.{isFirst, arranged, afterwards};
+ghost use Rattle.entries.specs.Entry.{beginIn, bytesAt, nameIn, entryOf};
+ghost use Rattle.entries.specs.Order.{order, upto};
+ghost use Rattle.entries.specs.Least.{isFirst};
+ghost use Rattle.order.specs.Arranged.{arranged, afterwards};
 ghost use Rattle.order.specs.Passes.{Holds, Halves, Copies, Merges, Joins, Sorts, Tells, Keeps, Seconds, leastNext, countBefore};
-
-pub enum Order {
-    Less,
-    Same,
-    More,
-}
 
 // How many entries are kept, and where the first begins that is not, since an entry before it has its name.
 pub enum Arranged {
     NoRoom,
     Done { count: usize, least: usize },
-}
-
-fn wide(b: u8) -> u64
-    ensures { λ r. ⌜ (r ≡ b) × (r < 256) ⌝ }
-{
-    b as u64
-}
-
-// The entry of the name that stands from one place to another.
-pub fn entry(part: &[u8], begin: usize, end: usize) -> u64
-    ensures { λ r. ⌜ r ≡ entryOf (now (part .entry)) begin end ⌝ }
-{
-    if end < begin {
-        return 0;
-    }
-    if part.len() < end {
-        return 0;
-    }
-    if 16777216 <= part.len() {
-        return 0;
-    }
-    if begin == end {
-        return begin as u64;
-    }
-    let ends = wide(part[begin]) * 256 + wide(part[end - 1]);
-    (ends * 16777216 + (end - begin) as u64) * 16777216 + begin as u64
-}
-
-// Where the name of an entry begins.
-pub fn begin_of(x: u64) -> usize
-    ensures { λ r. ⌜ r ≡ beginIn x ⌝ }
-{
-    (x % 16777216) as usize
-}
-
-// The order of n bytes at one place and n at another, which all stand in the part.
-fn compare_bytes(part: &[u8], a: usize, b: usize, n: usize) -> Order
-    requires { ⌜ (a + n ≤ length (now part)) × (b + n ≤ length (now part)) ⌝ }
-    ensures { λ r. ⌜ r ≡ order (bytesAt (now (part .entry)) a n) (bytesAt (now (part .entry)) b n) ⌝ }
-{
-    let mut i = 0;
-    while i < n {
-        let x = part[a + i];
-        let y = part[b + i];
-        if x != y {
-            if x < y {
-                return Order::Less;
-            }
-            return Order::More;
-        }
-        i += 1;
-    }
-    Order::Same
-}
-
-// The same where they need not.
-fn compare_parts(part: &[u8], a: usize, b: usize, n: usize) -> Order
-    requires { ⌜ (a < 16777216) × (b < 16777216) × (n < 16777216) ⌝ }
-    ensures { λ r. ⌜ r ≡ order (bytesAt (now (part .entry)) a n) (bytesAt (now (part .entry)) b n) ⌝ }
-{
-    if n == 0 {
-        return Order::Same;
-    }
-    if part.len() < a + n {
-        if part.len() < b + n {
-            return Order::Same;
-        }
-        return Order::Less;
-    }
-    if part.len() < b + n {
-        return Order::More;
-    }
-    compare_bytes(part, a, b, n)
-}
-
-// The order of the names of two entries. Most are told apart by their keys, and no byte of the part is looked at.
-pub fn compare(part: &[u8], x: u64, y: u64) -> Order
-    ensures { λ r. ⌜ r ≡ order (nameIn (now (part .entry)) x) (nameIn (now (part .entry)) y) ⌝ }
-{
-    if x / 16777216 < y / 16777216 {
-        return Order::Less;
-    }
-    if y / 16777216 < x / 16777216 {
-        return Order::More;
-    }
-    let n = (x / 16777216 % 16777216) as usize;
-    compare_parts(part, begin_of(x), begin_of(y), n)
-}
-
-// The first is not to stand behind the second.
-fn is_upto(part: &[u8], x: u64, y: u64) -> bool
-    ensures { λ r. ⌜ r ≡ upto (now (part .entry)) x y ⌝ }
-{
-    match compare(part, x, y) {
-        Order::Less => true,
-        Order::Same => x <= y,
-        Order::More => false,
-    }
 }
 
 // The first numbers of a table are copied to the room in it.
@@ -138,7 +35,7 @@ fn is_second<'a>(part: &'a [u8], table: &'a [u64], x: u64, at: usize, n: usize) 
     if n <= at {
         return false;
     }
-    !is_upto(part, x, table[at])
+    !entries::is_upto(part, x, table[at])
 }
 
 // Two sorted runs become one, from the front: m entries that stand in the room, and those from m to n.
@@ -165,7 +62,7 @@ fn join(part: &[u8], table: &mut [u64], m: usize, n: usize, room: usize)
     requires { ⌜ (0 < m) × (m < n) × Holds (now table) n room ⌝ }
     ensures { λ _. ⌜ Joins (now (part .entry)) m n room (now (table .entry)) (now (table .exit)) ⌝ }
 {
-    if is_upto(part, table[m - 1], table[m]) {
+    if entries::is_upto(part, table[m - 1], table[m]) {
         return;
     }
     copy(table, m, room);
@@ -186,26 +83,12 @@ fn sort(part: &[u8], table: &mut [u64], n: usize, room: usize)
     join(part, table, m, n, room);
 }
 
-// The first begins before the second, and has its name.
-fn is_first(part: &[u8], x: u64, y: u64) -> bool
-    ensures { λ r. ⌜ r ≡ isFirst (now (part .entry)) x y ⌝ }
-{
-    if begin_of(y) <= begin_of(x) {
-        return false;
-    }
-    match compare(part, x, y) {
-        Order::Less => false,
-        Order::Same => true,
-        Order::More => false,
-    }
-}
-
 // The least beginning, if the second of two neighbours is a twin of the first.
 fn next_least(part: &[u8], x: u64, y: u64, least: usize) -> usize
     ensures { λ r. ⌜ r ≡ leastNext (now (part .entry)) x y least ⌝ }
 {
-    if is_first(part, x, y) {
-        let begin = begin_of(y);
+    if entries::is_first(part, x, y) {
+        let begin = entries::begin_of(y);
         if begin < least {
             return begin;
         }
@@ -231,7 +114,7 @@ fn first_twin<'a>(part: &'a [u8], table: &'a [u64], n: usize) -> usize
 fn counted(x: u64, least: usize) -> usize
     ensures { λ r. ⌜ r ≡ countBefore least x ⌝ }
 {
-    if begin_of(x) < least {
+    if entries::begin_of(x) < least {
         return 1;
     }
     0

@@ -11,12 +11,14 @@ use borrow.Author.Tests.{le-ltb, lt-ltb, ltb-true, ltb-false}
 use Rattle.number.proofs.Clash.{clash}
 use Rattle.order.specs.declared.Arranged.{Arranged}
 use Rattle.order.specs.declared.Arranged.the-variants as A
-use Rattle.order.specs.Entry.{beginIn, nameIn}
-use Rattle.order.specs.Arranged.{isFirst, lesser, least, before, kept, ordered, Afterwards, afterwards, settled, arranged}
-use Rattle.order.specs.Sorted.{Sorted, In}
-use Rattle.order.proofs.Perms.{perm-in, perm-back}
+use Rattle.entries.specs.Entry.{beginIn, nameIn}
+use Rattle.entries.specs.Least.{isFirst, lesser, least}
+use Rattle.order.specs.Arranged.{before, kept, ordered, Afterwards, afterwards, settled, arranged}
+use Rattle.entries.specs.Among.{In}
+use Rattle.order.specs.Sorted.{Sorted}
+use Rattle.entries.proofs.Perms.{perm-in, perm-back}
 use Rattle.order.proofs.SortedLaws.{ordered-sorted, ordered-perm, ordered-length}
-use Rattle.order.proofs.LeastLaws.{same-named, one-begin, lesser-left, lesser-right, lesser-both, least-more, least-bound}
+use Rattle.entries.proofs.LeastLaws.{same-named, one-begin, lesser-left, lesser-right, lesser-both, least-more, least-bound}
 use Rattle.order.proofs.KeptLaws.{kept-in, kept-before, kept-has, kept-once}
 use Rattle.select.specs.declared.Bound.{Bound}
 use Rattle.select.specs.declared.Bound.the-variants as B

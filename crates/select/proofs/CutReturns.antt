@@ -7,7 +7,8 @@ use mathlib.Core.List.{List}
 use lib.ListN.{length, getD, set}
 use Rattle.order.specs.declared.Arranged.{Arranged}
 use Rattle.order.specs.declared.Arranged.the-variants as A
-use Rattle.order.specs.Arranged.{lesser, afterwards, arranged}
+use Rattle.entries.specs.Least.{lesser}
+use Rattle.order.specs.Arranged.{afterwards, arranged}
 use Rattle.select.specs.declared.Bound.{Bound}
 use Rattle.select.specs.declared.Bound.the-variants as B
 use Rattle.select.specs.declared.Pass.{Pass}

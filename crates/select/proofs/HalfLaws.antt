@@ -7,13 +7,15 @@ use mathlib.Core.List.{List, [], _∷_, _++_, append-assoc}
 use lib.ListN.{length, take, drop, getD}
 use lib.Seq.{split-at, take-suc}
 use Rattle.number.proofs.Clash.{clash}
-use Rattle.order.specs.declared.Order.the-variants as O
-use Rattle.order.specs.Entry.{nameIn}
-use Rattle.order.specs.Order.{order}
-use Rattle.order.specs.Sorted.{Below, Sorted, In, here, there}
-use Rattle.order.proofs.OrderLaws.{Upto, less, same, upto-is, order-not, order-trans}
+use Rattle.entries.specs.declared.Order.the-variants as O
+use Rattle.entries.specs.Entry.{nameIn}
+use Rattle.entries.specs.Order.{order}
+use Rattle.entries.specs.Among.{In, here, there}
+use Rattle.order.specs.Sorted.{Below, Sorted}
+use Rattle.entries.proofs.OrderLaws.{Upto, less, same, upto-is, order-not, order-trans}
 use Rattle.order.proofs.SortedLaws.{below-in}
-use Rattle.order.proofs.NeighbourLaws.{in-left, in-last, in-cases, sorted-last, sorted-left}
+use Rattle.entries.proofs.Perms.{in-left, in-last, in-cases}
+use Rattle.order.proofs.NeighbourLaws.{sorted-last, sorted-left}
 use Rattle.select.specs.declared.Bound.the-variants as B
 use Rattle.select.specs.Range.{upTo}
 use Rattle.select.proofs.RangeLaws.{up-cases, up-less, up-same}

@@ -3,9 +3,10 @@ mod RangeLaws
 mod HalfLaws
 mod CutLaws
 mod PassLaws
-mod WalkLaws
+pub mod WalkLaws
 mod CutReturns
 mod SearchReturns
+mod FillReturns
 pub mod TwinLaws
 pub mod SourceLaws
 pub mod OneAnswer

@@ -10,17 +10,18 @@ use lib.Seq.{take-suc-set}
 use lib.Dec.{ltb}
 use borrow.Author.Tests.{ltb-true, ltb-false}
 use Rattle.number.proofs.Clash.{clash}
-use Rattle.order.specs.declared.Order.{Order}
-use Rattle.order.specs.declared.Order.the-variants as O
+use Rattle.entries.specs.declared.Order.{Order}
+use Rattle.entries.specs.declared.Order.the-variants as O
 use Rattle.order.specs.declared.Arranged.{Arranged}
 use Rattle.order.specs.declared.Arranged.the-variants as A
-use Rattle.order.specs.Entry.{beginIn, nameIn}
-use Rattle.order.specs.Arranged.{isFirst, lesser, least, afterwards, arranged}
-use Rattle.order.specs.Sorted.{In, here, there}
-use Rattle.order.specs.Order.{order}
-use Rattle.order.proofs.OrderLaws.{order-same, order-refl, order-flip, order-trans, order-not}
-use Rattle.order.proofs.LeastLaws.{first-is, lesser-left, lesser-right, lesser-both, least-bound, least-over, least-pair, least-more}
-use Rattle.order.proofs.NeighbourLaws.{in-left, in-last, in-cases}
+use Rattle.entries.specs.Entry.{beginIn, nameIn}
+use Rattle.entries.specs.Least.{isFirst, lesser, least}
+use Rattle.order.specs.Arranged.{afterwards, arranged}
+use Rattle.entries.specs.Among.{In, here, there}
+use Rattle.entries.specs.Order.{order}
+use Rattle.entries.proofs.OrderLaws.{order-same, order-refl, order-flip, order-trans, order-not}
+use Rattle.entries.proofs.LeastLaws.{first-is, lesser-left, lesser-right, lesser-both, least-bound, least-over, least-pair, least-more}
+use Rattle.entries.proofs.Perms.{in-left, in-last, in-cases}
 use Rattle.select.specs.declared.Bound.{Bound}
 use Rattle.select.specs.declared.Bound.the-variants as B
 use Rattle.select.specs.declared.Pass.{Pass}

@@ -16,9 +16,9 @@ use Rattle.names.specs.FieldNames.{nameAt}
 use Rattle.frames.specs.FramePieces.{writable}
 use Rattle.passing.specs.Pass.{passOver}
 use Rattle.passing.specs.FrameNames as frames
-use Rattle.order.specs.Entry.{bytesAt, endsOf, entryOf}
-use Rattle.order.specs.Order.{order}
-use Rattle.order.specs.Arranged.{isFirst, isTwin, leastOf}
+use Rattle.entries.specs.Entry.{bytesAt, halfAt, markOf, entryOf}
+use Rattle.entries.specs.Order.{order}
+use Rattle.entries.specs.Least.{isFirst, isTwin, leastOf}
 use Rattle.select.specs.declared.Source.the-variants.{Fields, Frames}
 use Rattle.select.specs.declared.Bound.the-variants as B
 use Rattle.select.specs.Source.{entriesFrom, firstTwin, searched}
@@ -29,18 +29,25 @@ abbrev part : List ℕ
 part = 1 ∷ 97 ∷ 1 ∷ 98 ∷ 1 ∷ 97 ∷ 1 ∷ 98 ∷ []
 
 pub fields-pinned : map (firstTwin (Fields (SharedField Null))) (part ∷ (1 ∷ 97 ∷ 1 ∷ 98 ∷ []) ∷ (0 ∷ 0 ∷ []) ∷ [] ∷ []) ≡ 5 ∷ 16777216 ∷ 2 ∷ 16777216 ∷ []
-unfolding varUInt isText due readVarUInt isEmpty payload front head nameAt equal isFirst isTwin leastOf bytesAt endsOf entryOf entriesFrom firstTwin
+unfolding varUInt isText due readVarUInt isEmpty payload front head nameAt equal isFirst isTwin leastOf bytesAt halfAt markOf entryOf entriesFrom firstTwin
 fields-pinned = refl
 
 -- "a", "b", "a"; an object "a" with "a" in it, then "b"; the same, then "a" that is cut behind its name
-pub frames-pinned : map (firstTwin (Frames 2))
+pub frames-pinned : map (firstTwin (Frames 2 7))
     ((1 ∷ 1 ∷ 97 ∷ 1 ∷ 1 ∷ 98 ∷ 1 ∷ 1 ∷ 97 ∷ []) ∷ (2 ∷ 1 ∷ 97 ∷ 1 ∷ 1 ∷ 97 ∷ 0 ∷ 1 ∷ 1 ∷ 98 ∷ []) ∷ (2 ∷ 1 ∷ 97 ∷ 1 ∷ 1 ∷ 97 ∷ 0 ∷ 7 ∷ 1 ∷ 97 ∷ []) ∷ [])
     ≡ 8 ∷ 16777216 ∷ 9 ∷ []
-unfolding varUInt isText due known readVarUInt fixed isEmpty payload writable passOver frames.nameOf frames.nameAt equal isFirst isTwin leastOf bytesAt endsOf entryOf entriesFrom firstTwin
+unfolding varUInt isText due known readVarUInt fixed isEmpty payload writable passOver frames.nameOf frames.nameAt equal isFirst isTwin leastOf bytesAt halfAt markOf entryOf entriesFrom firstTwin
 frames-pinned = refl
 
-pub searched-pinned : searched (Fields (SharedField Null)) part (7 ∷ 8 ∷ []) ≡ record { answer = 5; table = 0 ∷ 0 ∷ [] }
-unfolding varUInt isText due readVarUInt isEmpty payload front head nameAt equal isFirst isTwin leastOf bytesAt endsOf entryOf entriesFrom firstTwin searched
+-- of "a", "b", "a" those that begin up to 6, 5 and 3
+pub last-pinned : map (λ p. firstTwin (Frames 2 p) (1 ∷ 1 ∷ 97 ∷ 1 ∷ 1 ∷ 98 ∷ 1 ∷ 1 ∷ 97 ∷ [])) (6 ∷ 5 ∷ 3 ∷ []) ≡ 8 ∷ 16777216 ∷ 16777216 ∷ []
+unfolding varUInt isText due known readVarUInt fixed isEmpty payload writable passOver frames.nameOf frames.nameAt equal isFirst isTwin leastOf bytesAt halfAt markOf entryOf entriesFrom firstTwin
+last-pinned = refl
+
+-- of four names: in a table that holds fewer, and in one that holds more
+pub searched-pinned : searched (Fields (SharedField Null)) part (7 ∷ 8 ∷ []) ∷ searched (Fields (SharedField Null)) part (7 ∷ 8 ∷ 9 ∷ 10 ∷ 11 ∷ 12 ∷ []) ∷ []
+    ≡ record { answer = 5; table = 0 ∷ 0 ∷ [] } ∷ record { answer = 5; table = 0 ∷ 0 ∷ 0 ∷ 0 ∷ 11 ∷ 12 ∷ [] } ∷ []
+unfolding varUInt isText due readVarUInt isEmpty payload front head nameAt equal isFirst isTwin leastOf bytesAt halfAt markOf entryOf entriesFrom firstTwin searched
 searched-pinned = refl
 
 -- the second name above and up to no bound, the first, itself; then wanted above the first and up to itself, before 4, 3 and 2
@@ -51,13 +58,13 @@ abbrev a : ℕ
 a = entryOf part 1 2
 
 pub range-pinned : map (λ l. above part l b) (B.Open ∷ B.At a ∷ B.At b ∷ []) ≡ true ∷ true ∷ false ∷ []
-unfolding order bytesAt endsOf entryOf
+unfolding order bytesAt halfAt markOf entryOf
 range-pinned = refl
 
 pub up-pinned : map (λ l. upTo part l b) (B.Open ∷ B.At a ∷ B.At b ∷ []) ≡ true ∷ false ∷ true ∷ []
-unfolding order bytesAt endsOf entryOf
+unfolding order bytesAt halfAt markOf entryOf
 up-pinned = refl
 
 pub wanted-pinned : map (λ n. wanted part (B.At a) (B.At b) n b) (4 ∷ 3 ∷ 2 ∷ []) ≡ true ∷ false ∷ false ∷ []
-unfolding order bytesAt endsOf entryOf wanted
+unfolding order bytesAt halfAt markOf entryOf wanted
 wanted-pinned = refl

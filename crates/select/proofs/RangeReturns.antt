@@ -6,13 +6,13 @@ use mathlib.Core.List.{List}
 use borrow.Author.Tests.{le-leb, lt-leb, lt-ltb, le-ltb}
 use Rattle.format.specs.declared.Form.{Form}
 use Rattle.names.specs.declared.Name.{Name}
+use Rattle.names.specs.declared.Name.the-variants as N
 use Rattle.names.specs.FieldNames.{nameAt}
 use Rattle.passing.specs.FrameNames as frames
-use Rattle.order.specs.declared.Order.{Order}
-use Rattle.order.specs.declared.Order.the-variants as O
-use Rattle.order.specs.Entry.{beginIn, nameIn}
-use Rattle.order.specs.Order.{order, isUpto}
-use Rattle.order.specs.Arranged.{lesser}
+use Rattle.entries.specs.declared.Order.{Order}
+use Rattle.entries.specs.declared.Order.the-variants as O
+use Rattle.entries.specs.Entry.{beginIn, nameIn}
+use Rattle.entries.specs.Order.{order, isUpto}
 use Rattle.select.specs.declared.Source.{Source}
 use Rattle.select.specs.declared.Source.the-variants as S
 use Rattle.select.specs.declared.Bound.{Bound}
@@ -25,8 +25,12 @@ use Rattle.select.specs.Range.{isMore, above, upTo, wanted}
 pub of-field : (o : Source) (s : List ℕ) (a : ℕ) (f : Form) → o ≡ S.Fields f → (r : Name) → r ≡ nameAt f a s → r ≡ namedAt o a s
 of-field o s a f e r i = i ∙ rw e
 
-pub of-frame : (o : Source) (s : List ℕ) (a d : ℕ) → o ≡ S.Frames d → (r : Name) → r ≡ frames.nameAt d a s → r ≡ namedAt o a s
-of-frame o s a d e r i = i ∙ rw e
+module _ (o : Source) (s : List ℕ) (a d p : ℕ) (e : o ≡ S.Frames d p) where
+  pub of-frame : a ≤ p → (r : Name) → r ≡ frames.nameAt d a s → r ≡ namedAt o a s
+  of-frame l r h = rw (e, le-leb a p l) h
+
+  pub of-none : p < a → N.Nothing ≡ namedAt o a s
+  of-none l = rw (e, lt-leb a p l)
 
 -- ---- a range
 
@@ -75,9 +79,3 @@ module _ (s : List ℕ) (low high : Bound) (stop x n : ℕ) (e : n ≡ beginIn x
     pub wanted-under : a ≡ false → false ≡ wanted s low high stop x
     unfolding wanted
     wanted-under h = rw (lt-leb stop (beginIn x) (rw e at l), sym i ∙ h)
-
-pub lesser-first : (a b : ℕ) → a < b → a ≡ lesser a b
-lesser-first a b l = rw (lt-ltb a b l)
-
-pub lesser-second : (a b : ℕ) → b ≤ a → b ≡ lesser a b
-lesser-second a b l = rw (le-ltb a b l)

@@ -1,16 +1,14 @@
--- What a pass and the whole search answer at each return, and a table that is cleared.
+-- What a pass and the whole search answer at each return.
 use Prim.Native.Nat.{ℕ, zero, suc, _+_, _-_, _/_, _≤_, _<_}
 use native.Mathlib.Omega.{arith}
-use native.Mathlib.Numerals.{add-one}
 use mathlib.Core.Path.{_≡_, refl, sym, ap, _∙_, subst}
-use mathlib.Core.List.{List, [], _∷_, _++_, append-nil}
-use lib.ListN.{length, take, drop, getD, set, replicate, length-replicate, drop-of-length-le}
-use lib.Seq.{drop-cons, set-at}
+use mathlib.Core.List.{List, [], _∷_, _++_}
+use lib.ListN.{length, take, replicate}
 use Rattle.names.specs.declared.Name.{Name}
 use Rattle.names.specs.declared.Name.the-variants as N
-use Rattle.order.specs.Entry.{entryOf}
-use Rattle.order.specs.Arranged.{least}
-use Rattle.order.specs.Sorted.{In}
+use Rattle.entries.specs.Entry.{entryOf}
+use Rattle.entries.specs.Least.{least}
+use Rattle.entries.specs.Among.{In}
 use Rattle.select.specs.declared.Source.{Source}
 use Rattle.select.specs.declared.Bound.{Bound}
 use Rattle.select.specs.declared.Bound.the-variants as B
@@ -85,25 +83,6 @@ module _ (o : Source) (s : List ℕ) (low : Bound) (t₀ : List ℕ) where
         pub gather-less : length s - n < length s - at
         gather-less = walk-less o s (g .met) at (g .walked) x e l b f n h
 
--- ---- a table that is cleared
-
-pub record Cleared (t₀ t : List ℕ) (i : ℕ) : Type 0 where
-  pub is : t ≡ replicate i 0 ++ drop i t₀
-
-zeros-on : (n : ℕ) (l : List ℕ) → replicate n 0 ++ (0 ∷ l) ≡ 0 ∷ (replicate n 0 ++ l)
-zeros-on zero l = refl
-zeros-on (suc n) l = ap (λ (m : List ℕ). 0 ∷ m) (zeros-on n l)
-
-pub clear-starts : (t : List ℕ) → Cleared t t 0
-clear-starts t = record { is = refl }
-
-pub clear-on : (t₀ t : List ℕ) (i : ℕ) → Cleared t₀ t i → i < length t₀ → Cleared t₀ (set t i 0) (i + 1)
-clear-on t₀ t i e h =
-    record { is = rw (e .is, drop-cons t₀ i 0 h, set-at (replicate i 0) (getD t₀ i 0) (drop (suc i) t₀) 0 i (length-replicate i 0), add-one i) (zeros-on i (drop (suc i) t₀)) }
-
-pub clear-ends : (t₀ t : List ℕ) (i : ℕ) → Cleared t₀ t i → i ≤ length t₀ → length t₀ ≤ i → t ≡ replicate (length t₀) 0
-clear-ends t₀ t i e l h = let z : i ≡ length t₀ = omega arith in rw (e .is, drop-of-length-le t₀ h, z) (append-nil (replicate (length t₀) 0))
-
 -- ---- pass after pass
 
 pub record Searching (o : Source) (s : List ℕ) (t₀ t : List ℕ) (low : Bound) (stop : ℕ) : Type 0 where
@@ -132,10 +111,3 @@ module _ (o : Source) (s t₀ t : List ℕ) (low : Bound) (stop : ℕ) (g : Sear
 
     pub search-less : left s (B.At y) (entriesOf o s) < left s low (entriesOf o s)
     search-less = left-less s low y (reached-at .1) (entriesOf o s) (reached-at .0)
-
--- ---- the answer
-
-pub found : (o : Source) (s t : List ℕ) (r : ℕ) (t′ t″ : List ℕ) → r ≡ firstTwin o s → length t′ ≡ length t → t″ ≡ replicate (length t′) 0
-    → _≡_ (record { answer = r; table = t″ }) (searched o s t)
-unfolding searched
-found o s t r t′ t″ a b c = rw (a, c, b)

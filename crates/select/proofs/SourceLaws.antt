@@ -17,10 +17,10 @@ use Rattle.names.proofs.NameFound.{found-at, none-at}
 use Rattle.names.proofs.NameApart.{lead, name-apart}
 use Rattle.passing.specs.FrameNames as frames
 use Rattle.passing.proofs.NamesLaws as passing
-use Rattle.order.specs.Entry.{beginIn, bytesIn, nameIn, entryOf}
-use Rattle.order.specs.Sorted.{In, here, there}
-use Rattle.order.proofs.EntryLaws.{entry-begins, entry-bytes, entry-same}
-use Rattle.order.proofs.LeastLaws.{named-same}
+use Rattle.entries.specs.Entry.{beginIn, bytesIn, nameIn, entryOf}
+use Rattle.entries.specs.Among.{In, here, there}
+use Rattle.entries.proofs.EntryLaws.{entry-begins, entry-bytes, entry-same}
+use Rattle.entries.proofs.LeastLaws.{named-same}
 use Rattle.select.specs.declared.Source.{Source}
 use Rattle.select.specs.declared.Source.the-variants as S
 use Rattle.select.specs.Source.{namedAt, entriesAfter, entriesFrom, entriesOf, firstTwin}

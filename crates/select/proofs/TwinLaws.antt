@@ -11,11 +11,11 @@ use Rattle.number.proofs.Clash.{clash}
 use Rattle.text.specs.Equal.{equal}
 use Rattle.format.specs.Kinds.{any}
 use Rattle.format.specs.Names.{twins}
-use Rattle.order.specs.Entry.{beginIn, bytesIn, nameIn}
-use Rattle.order.specs.Arranged.{isFirst, least}
-use Rattle.order.specs.Sorted.{In, here, there}
+use Rattle.entries.specs.Entry.{beginIn, bytesIn, nameIn}
+use Rattle.entries.specs.Least.{isFirst, least}
+use Rattle.entries.specs.Among.{In, here, there}
 use Rattle.select.proofs.HalfLaws.{none-in, in-first}
-use Rattle.order.proofs.LeastLaws.{begin-below, first-is, is-first, least-bound, least-over, least-pair}
+use Rattle.entries.proofs.LeastLaws.{begin-below, first-is, is-first, least-bound, least-over, least-pair}
 
 -- ---- entries that begin one behind the other
 

@@ -2,16 +2,19 @@
 use Prim.Native.Nat.{ℕ, zero, suc, _+_, _-_, _≤_, _<_}
 use native.Mathlib.Omega.{arith}
 use mathlib.Core.Path.{_≡_, refl, sym, ap, _∙_}
+use mathlib.Core.Bool.{Bool, true, false, cond}
 use mathlib.Core.List.{List, [], _∷_, _++_, append-assoc, append-nil}
+use lib.Dec.{leb}
+use Rattle.number.proofs.Clash.{clash}
 use lib.ListN.{length, drop-of-length-le}
 use Rattle.names.specs.declared.Name.{Name}
 use Rattle.names.specs.declared.Name.the-variants as N
 use Rattle.names.proofs.NameFound.{found-at, name-at-past}
 use Rattle.passing.specs.FrameNames as frames
 use Rattle.passing.proofs.NamesLaws as passing
-use Rattle.order.specs.Entry.{entryOf}
-use Rattle.order.specs.Sorted.{In}
-use Rattle.order.proofs.NeighbourLaws.{in-left, in-last}
+use Rattle.entries.specs.Entry.{entryOf}
+use Rattle.entries.specs.Among.{In}
+use Rattle.entries.proofs.Perms.{in-left, in-last}
 use Rattle.select.specs.declared.Source.{Source}
 use Rattle.select.specs.declared.Source.the-variants as S
 use Rattle.select.specs.Source.{namedAt, entriesAfter, entriesFrom, entriesOf}
@@ -20,7 +23,11 @@ use Rattle.select.specs.Source.{namedAt, entriesAfter, entriesFrom, entr
 
 named-on : (o : Source) (s : List ℕ) (a b e n : ℕ) → a ≤ length s → namedAt o a s ≡ N.At b e n → (a < n) × (n ≤ length s)
 named-on (S.Fields f) s a b e n l h = let w = found-at f s a (N.At b e n) (sym h) l b e n refl in (w .onward, w .inside)
-named-on (S.Frames d) s a b e n l h = let w = passing.found-at d a s l b e n h in (w .onward, w .inside)
+named-on (S.Frames d p) s a b e n l h = go (leb a p) h
+  where
+    go : (t : Bool) → cond t (frames.nameAt d a s) N.Nothing ≡ N.At b e n → (a < n) × (n ≤ length s)
+    go true h = let w = passing.found-at d a s l b e n h in (w .onward, w .inside)
+    go false h = clash cc
 
 no-frame : (d : ℕ) (s : List ℕ) (a : ℕ) → length s ≤ a → frames.nameAt d a s ≡ N.Nothing
 unfolding frames.nameAt frames.nameOf
@@ -29,7 +36,11 @@ no-frame (suc d) s a l = rw (drop-of-length-le s l)
 
 named-past : (o : Source) (s : List ℕ) (a : ℕ) → length s ≤ a → namedAt o a s ≡ N.Nothing
 named-past (S.Fields f) s a l = sym (name-at-past f s a l)
-named-past (S.Frames d) s a l = no-frame d s a l
+named-past (S.Frames d p) s a l = rw (no-frame d s a l) (go (leb a p))
+  where
+    go : (t : Bool) → cond t N.Nothing N.Nothing ≡ N.Nothing
+    go true = refl
+    go false = refl
 
 -- ---- the walk
 

@@ -3,13 +3,15 @@ use Prim.Native.Nat.{ℕ, _/_, _≤_, _<_}
 use mathlib.Core.Path.{_≡_}
 use mathlib.Core.Bool.{true, false}
 use mathlib.Core.List.{List, [], _∷_, _++_}
-use lib.ListN.{length, take}
-use Rattle.order.specs.Entry.{beginIn}
-use Rattle.order.specs.Arranged.{isFirst, least}
-use Rattle.order.specs.Sorted.{In}
+use lib.ListN.{length, take, drop}
+use Rattle.entries.specs.Entry.{beginIn}
+use Rattle.entries.specs.Least.{isFirst, least}
+use Rattle.entries.specs.Among.{In}
 use Rattle.select.specs.declared.Bound.{Bound}
 use Rattle.select.specs.declared.Bound.the-variants as B
 use Rattle.select.specs.declared.Pass.{Pass}
+use Rattle.select.specs.declared.Filled.{Filled}
+use Rattle.select.specs.declared.Filled.the-variants as F
 use Rattle.select.specs.Range.{above, upTo, wanted}
 
 -- of the entries es, those that are not above a bound are dealt with: no twin among them begins before `stop`, and no twin at all before the least
@@ -64,3 +66,8 @@ pub record Passes (s es : List ℕ) (low : Bound) (t t′ : List ℕ) (p : Pass)
   pub kept : length t′ ≡ length t
   pub settled : Settled s es (p .high) (p .stop)
   pub reached : Reached s es low (p .high)
+
+-- a table filled with the entries es, if it holds so many
+abbrev pub Fills : List ℕ → List ℕ → List ℕ → Filled → Type 0
+Fills es t t′ (F.All n) = (n ≡ length es) × (length t′ ≡ length t) × (n ≤ length t) × (take n t′ ≡ es) × (drop n t′ ≡ drop n t)
+Fills es t t′ F.More = (length t < length es) × (length t′ ≡ length t)

@@ -1,21 +1,22 @@
 // Where the first name begins that stands a second time, among names that stand in a part one after another: of as many names as there are, in a table of
-// any length. Each pass over the part takes the least names that are above those of the passes before, as many as the table holds, and arranges them.
+// any length. If it holds them all, they are divided at once. Else each pass over the part takes the least names that are above those of the passes before, as
+// many as the table holds, and arranges them.
+use divide::Divided;
+use entries::Order;
 use format::Form;
 use names::Name;
 use order::Arranged;
-use order::Order;
 ghost use mathlib.Core.Path.{_≡_};
 ghost use Prim.Native.Nat.{_/_, _≤_, _<_};
 ghost use lib.ListN.{length, replicate};
-ghost use Rattle.order.specs.Arranged.{lesser};
 ghost use Rattle.select.specs.Source.{namedAt, entriesOf, firstTwin, searched};
 ghost use Rattle.select.specs.Range.{above, upTo, wanted};
-ghost use Rattle.select.specs.Passes.{Covered, Cuts, Adds, Finishes, Passes};
+ghost use Rattle.select.specs.Passes.{Covered, Cuts, Adds, Finishes, Passes, Fills};
 
-// Where the names come from: the fields of an object, or the frames that describe one, with so many levels left.
+// Where the names come from: the fields of an object; or the frames that describe one, with so many levels left, those that begin up to a place.
 pub enum Source {
     Fields(Form),
-    Frames(u32),
+    Frames(u32, usize),
 }
 
 // The end of a range of names: there is none, or the name of an entry.
@@ -37,7 +38,12 @@ pub fn name_at(part: &[u8], at: usize, source: Source) -> Name
 {
     match source {
         Source::Fields(form) => names::name_at(part, at, form),
-        Source::Frames(left) => passing::name_at(part, at, left),
+        Source::Frames(left, last) => {
+            if at <= last {
+                return passing::name_at(part, at, left);
+            }
+            Name::Nothing
+        }
     }
 }
 
@@ -46,7 +52,7 @@ fn is_above(part: &[u8], low: Bound, x: u64) -> bool
 {
     match low {
         Bound::Open => true,
-        Bound::At(y) => match order::compare(part, x, y) {
+        Bound::At(y) => match entries::compare(part, x, y) {
             Order::Less => false,
             Order::Same => false,
             Order::More => true,
@@ -59,7 +65,7 @@ fn is_upto(part: &[u8], high: Bound, x: u64) -> bool
 {
     match high {
         Bound::Open => true,
-        Bound::At(y) => match order::compare(part, x, y) {
+        Bound::At(y) => match entries::compare(part, x, y) {
             Order::Less => true,
             Order::Same => true,
             Order::More => false,
@@ -71,22 +77,13 @@ fn is_upto(part: &[u8], high: Bound, x: u64) -> bool
 fn is_wanted(part: &[u8], low: Bound, high: Bound, stop: usize, x: u64) -> bool
     ensures { λ r. ⌜ r ≡ wanted (now (part .entry)) low high stop x ⌝ }
 {
-    if stop <= order::begin_of(x) {
+    if stop <= entries::begin_of(x) {
         return false;
     }
     if is_above(part, low, x) {
         return is_upto(part, high, x);
     }
     false
-}
-
-fn lesser(a: usize, b: usize) -> usize
-    ensures { λ r. ⌜ r ≡ lesser a b ⌝ }
-{
-    if a < b {
-        return a;
-    }
-    b
 }
 
 // A full table is arranged. What begins at the first twin or behind it goes, and so does the upper half of the names, if more than half is left.
@@ -99,7 +96,7 @@ fn cut(part: &[u8], table: &mut [u64], pass: Pass) -> Pass
     match order::arrange(part, table, pass.count) {
         Arranged::NoRoom => pass,
         Arranged::Done { count, least } => {
-            let stop = lesser(pass.stop, least);
+            let stop = entries::lesser(pass.stop, least);
             if half < count {
                 return Pass {
                     high: Bound::At(table[half - 1]),
@@ -161,7 +158,7 @@ fn finish(part: &[u8], table: &mut [u64], pass: Pass) -> Pass
         Arranged::Done { count: _, least } => Pass {
             high: high,
             count: 0,
-            stop: lesser(pass.stop, least),
+            stop: entries::lesser(pass.stop, least),
         },
     }
 }
@@ -183,7 +180,7 @@ fn gather(part: &[u8], source: Source, low: Bound, table: &mut [u64], stop: usiz
                 return finish(part, table, pass);
             }
             Name::At { begin, end, next } => {
-                pass = add(part, low, table, pass, order::entry(part, begin, end));
+                pass = add(part, low, table, pass, entries::entry(part, begin, end));
                 at = next;
             }
         }
@@ -213,27 +210,61 @@ fn search(part: &[u8], source: Source, table: &mut [u64]) -> usize
     }
 }
 
-fn clear(table: &mut [u64])
-    ensures { λ r. ⌜ now (table .exit) ≡ replicate (length (now (table .entry))) 0 ⌝ }
-{
-    let mut i = 0;
-    while i < table.len() {
-        table[i] = 0;
-        i += 1;
-    }
-}
-
-// Where the first name begins that stands a second time; 16777216 if every name stands once. The table holds zeros afterwards, whatever it held before. A
-// longer one saves passes: with two numbers for each name there is one.
-pub fn first_twin(part: &[u8], source: Source, table: &mut [u64]) -> usize
-    ensures { λ r. ⌜ record { answer = r; table = now (table .exit) } ≡ searched source (now (part .entry)) (now (table .entry)) ⌝ }
+// Pass after pass in a table of any length, which holds zeros afterwards.
+fn pass_all(part: &[u8], source: Source, table: &mut [u64]) -> usize
+    ensures { λ r. ⌜ (r ≡ firstTwin source (now (part .entry))) × (now (table .exit) ≡ replicate (length (now (table .entry))) 0) ⌝ }
 {
     if table.len() < 4 {
         let mut own = [0u64; 64];
-        clear(table);
+        entries::clear(table);
         return search(part, source, &mut own);
     }
     let answer = search(part, source, table);
-    clear(table);
+    entries::clear(table);
     answer
+}
+
+// ---- all names at once
+
+// So many entries stand in front of the table, and they are all; or there are more than it holds.
+pub enum Filled {
+    All(usize),
+    More,
+}
+
+fn fill(part: &[u8], source: Source, table: &mut [u64]) -> Filled
+    ensures { λ r. ⌜ Fills (entriesOf source (now (part .entry))) (now (table .entry)) (now (table .exit)) r ⌝ }
+{
+    let mut at = 0;
+    let mut n = 0;
+    while at < part.len() {
+        match name_at(part, at, source) {
+            Name::Nothing => {
+                return Filled::All(n);
+            }
+            Name::At { begin, end, next } => {
+                if table.len() <= n {
+                    return Filled::More;
+                }
+                table[n] = entries::entry(part, begin, end);
+                n += 1;
+                at = next;
+            }
+        }
+    }
+    Filled::All(n)
+}
+
+// Where the first name begins that stands a second time; 16777216 if every name stands once. With a number for each name they are divided at once; the numbers
+// that were used hold zeros afterwards. With fewer there are passes, and the whole table holds zeros.
+pub fn first_twin(part: &[u8], source: Source, table: &mut [u64]) -> usize
+    ensures { λ r. ⌜ record { answer = r; table = now (table .exit) } ≡ searched source (now (part .entry)) (now (table .entry)) ⌝ }
+{
+    match fill(part, source, table) {
+        Filled::More => pass_all(part, source, table),
+        Filled::All(n) => match divide::first_twin(part, table, n) {
+            Divided::Done(least) => least,
+            Divided::Unfit => 0,
+        },
+    }
 }

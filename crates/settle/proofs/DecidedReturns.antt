@@ -14,7 +14,7 @@ module _ (m : Measured) (total room numbers : ℕ) where
   pub decided-refused : (n : Refusal) (p : ℕ) → m ≡ M.Refused n p → S.Refused n p ≡ decidedOf m total room numbers
   decided-refused n p e = rw e
 
-  module _ (x i z t k : ℕ) (e : m ≡ M.Read x i z t k) where
+  module _ (x i z k : ℕ) (e : m ≡ M.Read x i z k) where
     pub decided-after : x < total → S.Refused Complete x ≡ decidedOf m total room numbers
     decided-after h = rw (e, lt-ltb x total h)
 

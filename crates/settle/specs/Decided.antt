@@ -12,7 +12,7 @@ use Rattle.settle.specs.declared.Settled.the-variants as S
 -- what the measured field comes to: its own refusal; those that only the whole list shows, or the encoding's length
 abbrev pub decidedOf : Measured → ℕ → ℕ → ℕ → Settled
 decidedOf (M.Refused n p) total room numbers = S.Refused n p
-decidedOf (M.Read e i z t k) total room numbers =
+decidedOf (M.Read e i z k) total room numbers =
     cond (ltb e total) (S.Refused Complete e)
     (cond (ltb numbers k) (S.Refused FewWorkNumbers 0)
     (cond (leb room z) (S.Refused EncodingTooLong 0)

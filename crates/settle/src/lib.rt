@@ -4,15 +4,14 @@ use frames::Refusal;
 ghost use mathlib.Core.Path.{_≡_};
 ghost use Rattle.settle.specs.Decided.{decidedOf};
 
-// A field, measured: where the next frame stands; the ID and how long name and payload are as encoded; how many names there are now, and how
-// many containers.
+// A field, measured: where the next frame stands; the ID and how long name and payload are as encoded; how many
+// containers there are now.
 pub enum Measured {
     Refused(Refusal, usize),
     Read {
         next: usize,
         id: u8,
         size: usize,
-        top: usize,
         opened: usize,
     },
 }
@@ -33,7 +32,6 @@ pub fn decided(measured: Measured, list: usize, room: usize, numbers: usize) -> 
             next,
             id,
             size,
-            top: _,
             opened,
         } => {
             if next < list {

@@ -1,2 +1,6 @@
+pub mod NamedCases
+pub mod ObjectLaws
+pub mod ArrayLaws
 pub mod MaskCases
+pub mod PinnedMasked
 pub mod OneAnswer

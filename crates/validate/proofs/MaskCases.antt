@@ -4,7 +4,7 @@ use native.Mathlib.Omega.{arith}
 use mathlib.Core.Path.{_≡_, refl, sym, ap, _∙_}
 use mathlib.Core.Bool.{Bool, true, false, _&&_, cond}
 use mathlib.Core.List.{List, [], _∷_, _++_}
-use lib.ListN.{length, length-append}
+use lib.ListN.{length, length-append, replicate}
 use lib.Dec.{ltb}
 use borrow.Author.Tests.{lt-ltb, le-ltb}
 use Rattle.number.proofs.Clash.{clash}
@@ -24,8 +24,12 @@ use Rattle.faults.proofs.SumLaws.{noted-sum, sum-fits}
 use Rattle.contents.specs.declared.Field.{Field}
 use Rattle.contents.specs.declared.Field.the-variants as F
 use Rattle.checks.specs.Checks.{fieldAt}
-use Rattle.validate.specs.Asked.{asked}
+use Rattle.validate.specs.Asked.{asked, topAt, Masked, maskWith}
+use Rattle.checks.specs.Checks.{namelessly}
 use Rattle.names.proofs.ReadNames.{read-ends}
+use Rattle.validate.specs.declared.Named.{Named as Answer}
+use Rattle.validate.specs.Named.{namedAt, fieldIn, Kept}
+use Rattle.validate.proofs.NamedCases.{named-field}
 
 pub mask-long : (n : ℕ) (s : List ℕ) → lengthLimit < length s → (v : ℕ) → v ≡ stopValue TooLong → v ≡ mask n s
 unfolding mask
@@ -49,15 +53,10 @@ padding n s w (b ∷ r) e =
     at true = refl
     at false = refl
 
-module _ (n : ℕ) (s : List ℕ) (short : length s ≤ lengthLimit) (b₁ b₂ : Bool) (i₁ : b₁ ≡ isAsked n namesMode) (i₂ : b₂ ≡ isAsked n formatMode)
-    (g : Faults) (i₀ : g ≡ nothing)
-    (x : Field) (e : x ≡ fieldAt Top (record { names = b₁; format = b₂ }) depthLimit g s) where
+module _ (n : ℕ) (s : List ℕ) (short : length s ≤ lengthLimit) (x : Field) (field : x ≡ topAt n s) where
   within : mask n s ≡ maskOf n (read depthLimit Top s)
   unfolding mask
   within = rw (le-ltb lengthLimit (length s) short)
-
-  field : x ≡ fieldAt Top (asked n) depthLimit nothing s
-  field = rw (i₁, i₂, i₀) at e
 
   pub mask-stop : (j : Stop) → x ≡ F.Stop j → (v : ℕ) → v ≡ stopValue j → v ≡ mask n s
   unfolding fieldAt
@@ -93,3 +92,23 @@ module _ (n : ℕ) (s : List ℕ) (short : length s ≤ lengthLimit) (b₁ b₂ 
           let w₂ : a ≡ length s - length r = cc in
           let t = read-ends depthLimit Top s z in
           rw (w₁, w₂, sum-noted n fs, padding n s (t .0) r (t .1))
+
+-- ---- the top field's check
+
+module _ (n : ℕ) (s : List ℕ) (g : Faults) (i₀ : g ≡ nothing) (b₂ : Bool) (i₂ : b₂ ≡ isAsked n formatMode) (l : ℕ) (i₁ : l ≡ depthLimit) where
+  pub top-nameless : isAsked n namesMode ≡ false → (x : Field) → x ≡ fieldAt Top (namelessly b₂) l g s → x ≡ topAt n s
+  top-nameless e x h = rw (i₀, i₁, i₂, ← e) at h
+
+  pub top-named : (b₁ : Bool) → b₁ ≡ isAsked n namesMode → (y : Answer) → y ≡ namedAt Top (record { names = b₁; format = b₂ }) l g s → (x : Field) → x ≡ fieldIn y
+      → x ≡ topAt n s
+  top-named b₁ e y h x k = k ∙ (rw (i₀, i₁, i₂, e) at (named-field Top (record { names = b₁; format = b₂ }) g s l y h))
+
+pub not-asked : (n : ℕ) (o : Bool) → o ≡ isAsked n namesMode → o ≡ false → isAsked n namesMode ≡ false
+not-asked n o e h = sym e ∙ h
+
+-- ---- with a table
+
+pub cleared : (n : ℕ) (s t : List ℕ) (r : ℕ) → r ≡ mask n s → (t′ t″ : List ℕ) → Kept t t′ → t″ ≡ replicate (length t′) 0
+    → _≡_ {A = Masked} (record { answer = r; table = t″ }) (maskWith n s t)
+unfolding maskWith
+cleared n s t r e t′ t″ l h = rw (e, h, l .is)

@@ -1,7 +1,26 @@
--- What is asked of the checks.
+-- What is asked of the checks, and the mask where a table is lent.
 use Prim.Native.Nat.{ℕ}
+use mathlib.Core.List.{List}
+use lib.ListN.{length, replicate}
 use Rattle.faults.specs.declared.Modes.{Modes}
-use Rattle.format.specs.Mask.{isAsked, namesMode, formatMode}
+use Rattle.format.specs.declared.Form.the-variants.{Top}
+use Rattle.format.specs.Limits.{depthLimit}
+use Rattle.format.specs.Mask.{isAsked, namesMode, formatMode, mask}
+use Rattle.faults.specs.Noted.{nothing}
+use Rattle.contents.specs.declared.Field.{Field}
+use Rattle.checks.specs.Checks.{fieldAt}
 
 abbrev pub asked : ℕ → Modes
 asked n = record { names = isAsked n namesMode; format = isAsked n formatMode }
+
+-- the check of the top field
+abbrev pub topAt : ℕ → List ℕ → Field
+topAt n s = fieldAt Top (asked n) depthLimit nothing s
+
+-- the mask, and zeros in the table
+pub record Masked : Type 0 where
+  pub answer : ℕ
+  pub table : List ℕ
+
+unfoldable pub maskWith : ℕ → List ℕ → List ℕ → Masked
+maskWith n s t = record { answer = mask n s; table = replicate (length t) 0 }

@@ -7,9 +7,7 @@ use mathlib.Core.List.{List}
 use lib.ListN.{length, drop, length-append, length-drop}
 use mir.Syntax.{w64}
 use mir.Val.{Fits}
-use borrow.Author.Tests.{ne-eqb}
 use Rattle.number.proofs.Clash.{clash}
-use Rattle.float.specs.Rule.{holds}
 use Rattle.format.specs.declared.Kind.{Kind}
 use Rattle.format.specs.declared.Known.{Known}
 use Rattle.format.specs.declared.Known.the-variants.{Unknown, Is}
@@ -26,10 +24,9 @@ use Rattle.front.specs.Code.{answerOf}
 use Rattle.head.specs.Code.{headingOf, headAt}
 use Rattle.front.specs.Between.{between}
 use Rattle.front.proofs.BetweenLaws.{rest-all}
-use Rattle.frames.specs.Container.{containerId, uniformIn}
-use Rattle.frame.specs.Pieces.{noModes, nameEndBy, nameEnd, endIn, endKnown, leafEnd, bitsIn}
+use Rattle.frame.specs.Pieces.{noModes, nameEndBy, nameEnd, endIn, endKnown, leafEnd}
 use Rattle.frame.proofs.NameReturns.{name-parts}
-use Rattle.write.specs.Again.{startBy, startAt, bitsAt, finalId, endAt}
+use Rattle.write.specs.Again.{startBy, startAt, endAt}
 use Rattle.leaves.specs.declared.Heading.the-variants as H
 
 -- ---- where a payload starts
@@ -58,36 +55,6 @@ module _ (s : List ℕ) (at : ℕ) (l : at < length s) (named : Bool) where
 
     pub start-fits : length s ≤ 65536 → Fits w64 (at + 1 + v)
     start-fits q = record { fits = omega (arith, start-is .1) }
-
--- ---- eight bytes
-
-pub bits-are : (s : List ℕ) (at v : ℕ) → v ≡ bitsIn (between at (length s) s) → v ≡ bitsAt s at
-unfolding bitsAt
-bits-are s at v e = e ∙ ap bitsIn (rest-all at s)
-
--- ---- the ID as encoded
-
-module _ (s : List ℕ) (b start x : ℕ) where
-  pub final-object : b ≡ 2 → (i : ℕ) (t u : Bool) → t ≡ true → u ≡ uniformIn x → i ≡ containerId t u → i ≡ finalId s b start x
-  unfolding finalId
-  final-object h i t u et eu e = rw h (rw (et, eu) at e)
-
-  pub final-array : (b ≡ 2 → ⊥) → b ≡ 4 → (i : ℕ) (t u : Bool) → t ≡ false → u ≡ uniformIn x → i ≡ containerId t u → i ≡ finalId s b start x
-  unfolding finalId
-  final-array g h i t u et eu e = rw h (rw (et, eu) at e)
-
-  module _ (g : b ≡ 2 → ⊥) (h : b ≡ 4 → ⊥) where
-    pub final-held : b ≡ 11 → (v : ℕ) (t : Bool) → v ≡ bitsAt s start → t ≡ holds v → t ≡ true → 10 ≡ finalId s b start x
-    unfolding finalId
-    final-held i v t ev et j = let z : holds (bitsAt s start) ≡ true = ap holds (sym ev) ∙ sym et ∙ j in rw (i, z)
-
-    pub final-kept : b ≡ 11 → (v : ℕ) (t : Bool) → v ≡ bitsAt s start → t ≡ holds v → t ≡ false → 11 ≡ finalId s b start x
-    unfolding finalId
-    final-kept i v t ev et j = let z : holds (bitsAt s start) ≡ false = ap holds (sym ev) ∙ sym et ∙ j in rw (i, z)
-
-    pub final-other : (b ≡ 11 → ⊥) → b ≡ finalId s b start x
-    unfolding finalId
-    final-other i = rw (ne-eqb b 2 g, ne-eqb b 4 h, ne-eqb b 11 i)
 
 -- ---- where a leaf ends
 

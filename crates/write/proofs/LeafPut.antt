@@ -30,7 +30,8 @@ use Rattle.front.specs.Between.{between}
 use Rattle.frames.specs.WriteList.{Frames, framed, leafFound}
 use Rattle.format.proofs.KindLaws.{known-inv}
 use Rattle.write.specs.declared.Position.{Position}
-use Rattle.write.specs.Again.{bitsAt, endAt}
+use Rattle.output.specs.Encoded.{bitsAt}
+use Rattle.write.specs.Again.{endAt}
 use Rattle.frames.specs.FramePieces.{leafBy, leafKnown, leafOf}
 use Rattle.write.specs.Passes.{LeafMakes, LeafReady}
 use Rattle.frames.proofs.FrontLaws.{never}

@@ -25,7 +25,8 @@ use Rattle.format.proofs.KindLaws.{known-rt}
 use Rattle.frames.specs.Container.{nodeOf, ids, containerId, namePart, body, packed, uniformIn, packsOf}
 use Rattle.run.specs.Run.{shared, uniform}
 use Rattle.frames.specs.FramePieces.{contentsBy, containerOf, leafOf}
-use Rattle.write.specs.Again.{startBy, startAt, bitsAt, finalId}
+use Rattle.output.specs.Encoded.{bitsAt, finalId}
+use Rattle.write.specs.Again.{startBy, startAt}
 use Rattle.write.specs.Passes.{FieldGiven, ContentsGiven}
 use Rattle.frames.proofs.FrontLaws.{never, next-got, Fronted, leaf-kind, object-payload, array-payload}
 use Rattle.frames.proofs.PlaceLaws.{rest, bytes-drop, drop-head, tail-at}

@@ -15,7 +15,8 @@ use Rattle.front.specs.Between.{between}
 use Rattle.frames.specs.WriteList.{next}
 use Rattle.write.specs.declared.Position.{Position}
 use Rattle.frames.specs.Container.{typePart, namePart}
-use Rattle.write.specs.Again.{startAt, finalId}
+use Rattle.output.specs.Encoded.{finalId}
+use Rattle.write.specs.Again.{startAt}
 use Rattle.write.specs.Passes.{LeafMakes, LeafReady, partOf, Made, FieldGiven, FieldReady, FieldMakes, ContentsReady, ContentsMakes}
 use Rattle.frames.proofs.PlaceLaws.{sets-append}
 use Rattle.format.proofs.KindLaws.{id-range}

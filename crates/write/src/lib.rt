@@ -12,7 +12,7 @@ ghost use Rattle.number.specs.VarUInt.{encoded};
 ghost use Rattle.front.specs.Between.{between};
 ghost use Rattle.frames.specs.Writer.{written};
 ghost use Rattle.frames.specs.Container.{countPart, typePart};
-ghost use Rattle.write.specs.Again.{startAt, bitsAt, finalId, endAt};
+ghost use Rattle.write.specs.Again.{startAt, endAt};
 ghost use Rattle.write.specs.Passes.{LeafReady, LeafMakes, CanOpen, HasOpened, FieldReady, FieldMakes, ContentsReady, ContentsMakes};
 
 // Where the encoder stands: in the list, in the output, in the work numbers.
@@ -39,11 +39,7 @@ fn copy(list: &[u8], from: usize, end: usize, out: &mut [u8], to: usize)
     requires { ⌜ (from ≤ end) × (end ≤ length (now list)) × (to + (end - from) ≤ length (now out)) ⌝ }
     ensures { λ r. ⌜ now (out .exit) ≡ sets (now (out .entry)) to (between from end (now (list .entry))) ⌝ }
 {
-    let mut i = 0;
-    while i < end - from {
-        out[to + i] = list[from + i];
-        i += 1;
-    }
+    output::copy(list, from, end, out, to);
 }
 
 fn put_number(out: &mut [u8], at: usize, n: usize) -> usize
@@ -80,39 +76,12 @@ fn start_of(list: &[u8], at: usize, named: bool) -> usize
     at + 1
 }
 
-fn bits_at(list: &[u8], at: usize) -> u64
-    requires { ⌜ at ≤ length (now list) ⌝ }
-    ensures { λ r. ⌜ r ≡ bitsAt (now (list .entry)) at ⌝ }
-{
-    frame::bits_of(&list[at..])
-}
-
 // Where a leaf ends: b is its kind.
 fn end_at(list: &[u8], at: usize, b: u8) -> usize
     requires { ⌜ (at ≤ length (now list)) × (length (now list) ≤ 65536) ⌝ }
     ensures { λ r. ⌜ r ≡ endAt (now (list .entry)) at b ⌝ }
 {
     at + frame::leaf_end(&list[at..], b)
-}
-
-// The ID as encoded of a frame whose payload starts here: b is its kind, x its work number if it is a container.
-fn final_id(list: &[u8], b: u8, start: usize, x: u32) -> u8
-    requires { ⌜ start ≤ length (now list) ⌝ }
-    ensures { λ r. ⌜ r ≡ finalId (now (list .entry)) b start x ⌝ }
-{
-    if b == 2 {
-        return container::container_id(true, container::is_uniform_in(x));
-    }
-    if b == 4 {
-        return container::container_id(false, container::is_uniform_in(x));
-    }
-    if b == 11 {
-        if float::float32_holds(bits_at(list, start)) {
-            return 10;
-        }
-        return 11;
-    }
-    b
 }
 
 // ---- what is written
@@ -152,7 +121,7 @@ fn put_double(list: &[u8], at: usize, out: &mut [u8], to: usize, k: usize) -> Po
     requires { ⌜ LeafReady (now list) at 11 to (now out) ⌝ }
     ensures { λ r. ⌜ LeafMakes (now (list .entry)) at 11 to k (now (out .entry)) (now (out .exit)) r ⌝ }
 {
-    match float::narrow(bits_at(list, at)) {
+    match float::narrow(output::bits_at(list, at)) {
         float::Narrowed::To(bits) => {
             put_float32(out, to, bits);
             Position {
@@ -240,7 +209,7 @@ fn put_field(
 {
     let b = list[at];
     let start = start_of(list, at, named);
-    let id = final_id(list, b, start, container::number_at(work, k));
+    let id = output::final_id(list, b, start, container::number_at(work, k));
     let e = put_front(list, at + 1, start, named, typed, id, out, to);
     if b == 2 {
         return put_contents(list, start, true, out, e, work, k, left - 1);

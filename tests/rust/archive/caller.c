@@ -10,7 +10,10 @@
  *
  * The writer is lent an output of as many bytes as the first number says and as many work numbers as the end of the last place
  * says, between such pages too and all 7 before, and at most 2 numbers for its answer. The last two numbers of the answer are
- * then those that the output and the work numbers mix to (mixed, below). */
+ * then those that the output and the work numbers mix to (mixed, below).
+ *
+ * A call number of 128 more asks for the same call on a stack of its own, and the last number of the answer is then how many
+ * bytes of that stack were touched. */
 
 typedef unsigned char u8;
 typedef unsigned int u32;
@@ -18,6 +21,7 @@ typedef unsigned long u64;
 
 #define CALL extern __attribute__((weak))
 CALL u32 ajuqvane_validate(u32 modes, const u8 *payload, u64 length);
+CALL u32 ajuqvane_validate_with(u32 modes, const u8 *payload, u64 length, u64 *table, u64 numbers);
 CALL u32 ajuqvane_varuint(const u8 *part, u64 length, u64 *answer, u64 count);
 CALL u32 ajuqvane_is_text(const u8 *part, u64 length);
 CALL u32 ajuqvane_are_equal(const u8 *a, u64 a_length, const u8 *b, u64 b_length);
@@ -45,6 +49,10 @@ CALL u32 ajuqvane_write(const u8 *list, u64 list_length, u8 *out, u64 out_length
 #define HEAD (2 + 8 * 8 + 4ul)
 #define ANSWER (6 * 8ul)
 #define MOST_LENT 5ul
+/* The stack that a call is measured on, and what is painted of it. */
+#define STACK (2ul << 20)
+#define PAINTED (1ul << 20)
+#define PAINT 0x5AA5C33C69F00F96ul
 
 void *memcpy(void *to, const void *from, u64 count) {
     for (u64 i = 0; i < count; i++) ((u8 *)to)[i] = ((const u8 *)from)[i];
@@ -119,9 +127,122 @@ static u64 read_number(const u8 *bytes, u64 count) {
 static u64 mixed(u64 mix, u64 number) { return (mix ^ number) * 0x100000001B3ul; }
 #define UNMIXED 0xCBF29CE484222325ul
 
+static u8 *room, *other, *works, *stack;
+
+/* A request, where its bytes stand, and the numbers lent and answered. */
+struct asked {
+    u64 call, at_end, numbers[8], length;
+    const u8 *bytes;
+    u64 *lent, *answer;
+};
+
+static void answer_one(struct asked *asked) {
+    u64 call = asked->call, at_end = asked->at_end, length = asked->length, *lent = asked->lent, *answer = asked->answer;
+    u64 number = asked->numbers[0], start = asked->numbers[2], end = asked->numbers[3];
+    u64 after = asked->numbers[6], count = asked->numbers[7];
+    u8 kind = (u8)asked->numbers[1];
+    u32 depth = (u32)asked->numbers[4], some = (u32)asked->numbers[5];
+    const u8 *bytes = asked->bytes, *part = flush(room, ROOM, bytes, length, at_end);
+    switch (call) {
+    case 0:
+        if (ajuqvane_validate) answer[0] = ajuqvane_validate((u32)number, part, length);
+        break;
+    case 1:
+        if (ajuqvane_varuint) answer[0] = ajuqvane_varuint(part, length, lent, count);
+        break;
+    case 2:
+        if (ajuqvane_is_text) answer[0] = ajuqvane_is_text(part, length);
+        break;
+    case 3: /* the bytes before the number's, and those from it on */
+        if (number > length) leave(5);
+        if (ajuqvane_are_equal) {
+            const u8 *a = flush(room, ROOM, bytes, number, at_end);
+            const u8 *b = flush(other, ROOM, bytes + number, length - number, at_end);
+            answer[0] = ajuqvane_are_equal(a, number, b, length - number);
+        }
+        break;
+    case 4:
+        if (ajuqvane_float32_holds) answer[0] = ajuqvane_float32_holds(number);
+        break;
+    case 5:
+        if (ajuqvane_widen) answer[0] = ajuqvane_widen((u32)number);
+        break;
+    case 6:
+        if (ajuqvane_check) answer[0] = ajuqvane_check(part, length, kind, start, end, depth);
+        break;
+    case 7:
+        if (ajuqvane_top) answer[0] = ajuqvane_top(part, length, lent, count);
+        break;
+    case 8:
+        if (ajuqvane_step)
+            answer[0] = ajuqvane_step(part, length, kind, start, end, depth, some, after, lent, count);
+        break;
+    case 9:
+        if (ajuqvane_view) answer[0] = ajuqvane_view(part, length, kind, start, end, depth, lent, count);
+        break;
+    case 10: /* the payload before the number's byte, and the name from it on */
+        if (number > length) leave(5);
+        if (ajuqvane_lookup) {
+            const u8 *payload = flush(room, ROOM, bytes, number, at_end);
+            const u8 *name = flush(other, ROOM, bytes + number, length - number, at_end);
+            answer[0] = ajuqvane_lookup(payload, number, kind, start, end, depth, name, length - number, lent, count);
+        }
+        break;
+    case 11:
+        if (ajuqvane_double) answer[0] = ajuqvane_double(part, length, kind, start, end, depth, lent, count);
+        break;
+    case 12:
+        if (ajuqvane_signed) answer[0] = ajuqvane_signed(part, length, kind, start, end, depth, lent, count);
+        break;
+    case 13:
+        if (ajuqvane_unsigned) answer[0] = ajuqvane_unsigned(part, length, kind, start, end, depth, lent, count);
+        break;
+    case 14:
+        if (ajuqvane_ticks) answer[0] = ajuqvane_ticks(part, length, kind, start, end, depth, lent, count);
+        break;
+    case 15:
+        if (number > ROOM || after > ROOM / 4 || count > 2) leave(5);
+        if (ajuqvane_write) {
+            u8 *out = at_end ? other + ROOM - number : other;
+            u32 *work = (u32 *)(at_end ? works + ROOM - 4 * after : works);
+            memset(out, 7, number);
+            for (u64 i = 0; i < after; i++) work[i] = 7;
+            answer[0] = ajuqvane_write(part, length, out, number, work, after, lent, count);
+            answer[4] = answer[5] = UNMIXED;
+            for (u64 i = 0; i < number; i++) answer[4] = mixed(answer[4], out[i]);
+            for (u64 i = 0; i < after; i++) answer[5] = mixed(answer[5], work[i]);
+        }
+        break;
+    case 16: /* with a table of as many numbers as the end of the last place says */
+        if (after > ROOM / 8) leave(5);
+        if (ajuqvane_validate_with) {
+            u64 *table = (u64 *)(at_end ? works + ROOM - 8 * after : works);
+            for (u64 i = 0; i < after; i++) table[i] = 7;
+            answer[0] = ajuqvane_validate_with((u32)number, part, length, table, after);
+            answer[4] = 0;
+            for (u64 i = 0; i < after; i++) answer[4] |= table[i];
+        }
+        break;
+    default: leave(5);
+    }
+}
+
+/* The same on the other stack, which is painted before: how many bytes of it were touched. */
+static u64 measured(struct asked *asked) {
+    volatile u64 *from = (volatile u64 *)(stack + STACK - PAINTED), *top = (volatile u64 *)(stack + STACK);
+    for (volatile u64 *word = from; word < top; word++) *word = PAINT;
+    __asm__ volatile("mov %%rsp, %%rbx\n  mov %2, %%rsp\n  call *%1\n  mov %%rbx, %%rsp"
+                     : "+D"(asked)
+                     : "r"(answer_one), "r"(top)
+                     : "rax", "rbx", "rcx", "rdx", "rsi", "r8", "r9", "r10", "r11", "cc", "memory", "xmm0", "xmm1", "xmm2", "xmm3",
+                       "xmm4", "xmm5", "xmm6", "xmm7", "xmm8", "xmm9", "xmm10", "xmm11", "xmm12", "xmm13", "xmm14", "xmm15");
+    while (from < top && *from == PAINT) from++;
+    return (u64)top - (u64)from;
+}
+
 void answer_all(void) {
-    u8 *block = guarded(BLOCK), *answers = guarded(BLOCK), *room = guarded(ROOM), *other = guarded(ROOM), *last = guarded(PAGE);
-    u8 *works = guarded(ROOM);
+    u8 *block = guarded(BLOCK), *answers = guarded(BLOCK), *last = guarded(PAGE);
+    room = guarded(ROOM), other = guarded(ROOM), works = guarded(ROOM), stack = guarded(STACK);
     for (;;) {
         u8 head[4];
         transfer(0, 0, head, 4);
@@ -129,92 +250,23 @@ void answer_all(void) {
         if (size > BLOCK) leave(5);
         transfer(0, 0, block, size);
         while (at + HEAD <= size) {
-            u64 call = block[at], at_end = block[at + 1], numbers[8];
-            for (u64 i = 0; i < 8; i++) numbers[i] = read_number(block + at + 2 + 8 * i, 8);
-            u64 number = numbers[0], start = numbers[2], end = numbers[3], after = numbers[6], count = numbers[7];
-            u8 kind = (u8)numbers[1];
-            u32 depth = (u32)numbers[4], some = (u32)numbers[5];
-            u64 length = read_number(block + at + HEAD - 4, 4);
-            const u8 *bytes = block + at + HEAD;
-            at += HEAD + length;
-            if (at > size || length > ROOM || written + ANSWER > BLOCK || count > MOST_LENT) leave(5);
-            const u8 *part = flush(room, ROOM, bytes, length, at_end);
-            u64 *lent = (u64 *)(at_end ? last + PAGE - 8 * count : last);
+            struct asked asked = {.call = block[at] & 127, .at_end = block[at + 1]};
+            u64 measure = block[at] & 128;
+            for (u64 i = 0; i < 8; i++) asked.numbers[i] = read_number(block + at + 2 + 8 * i, 8);
+            u64 count = asked.numbers[7];
+            asked.length = read_number(block + at + HEAD - 4, 4);
+            asked.bytes = block + at + HEAD;
+            at += HEAD + asked.length;
+            if (at > size || asked.length > ROOM || written + ANSWER > BLOCK || count > MOST_LENT) leave(5);
+            u64 *lent = asked.lent = (u64 *)(asked.at_end ? last + PAGE - 8 * count : last);
             for (u64 i = 0; i < count; i++) lent[i] = 7;
             u64 answer[6] = {ABSENT, 0, 0, 0, 0, 0};
-            switch (call) {
-            case 0:
-                if (ajuqvane_validate) answer[0] = ajuqvane_validate((u32)number, part, length);
-                break;
-            case 1:
-                if (ajuqvane_varuint) answer[0] = ajuqvane_varuint(part, length, lent, count);
-                break;
-            case 2:
-                if (ajuqvane_is_text) answer[0] = ajuqvane_is_text(part, length);
-                break;
-            case 3: /* the bytes before the number's, and those from it on */
-                if (number > length) leave(5);
-                if (ajuqvane_are_equal) {
-                    const u8 *a = flush(room, ROOM, bytes, number, at_end);
-                    const u8 *b = flush(other, ROOM, bytes + number, length - number, at_end);
-                    answer[0] = ajuqvane_are_equal(a, number, b, length - number);
-                }
-                break;
-            case 4:
-                if (ajuqvane_float32_holds) answer[0] = ajuqvane_float32_holds(number);
-                break;
-            case 5:
-                if (ajuqvane_widen) answer[0] = ajuqvane_widen((u32)number);
-                break;
-            case 6:
-                if (ajuqvane_check) answer[0] = ajuqvane_check(part, length, kind, start, end, depth);
-                break;
-            case 7:
-                if (ajuqvane_top) answer[0] = ajuqvane_top(part, length, lent, count);
-                break;
-            case 8:
-                if (ajuqvane_step)
-                    answer[0] = ajuqvane_step(part, length, kind, start, end, depth, some, after, lent, count);
-                break;
-            case 9:
-                if (ajuqvane_view) answer[0] = ajuqvane_view(part, length, kind, start, end, depth, lent, count);
-                break;
-            case 10: /* the payload before the number's byte, and the name from it on */
-                if (number > length) leave(5);
-                if (ajuqvane_lookup) {
-                    const u8 *payload = flush(room, ROOM, bytes, number, at_end);
-                    const u8 *name = flush(other, ROOM, bytes + number, length - number, at_end);
-                    answer[0] = ajuqvane_lookup(payload, number, kind, start, end, depth, name, length - number, lent, count);
-                }
-                break;
-            case 11:
-                if (ajuqvane_double) answer[0] = ajuqvane_double(part, length, kind, start, end, depth, lent, count);
-                break;
-            case 12:
-                if (ajuqvane_signed) answer[0] = ajuqvane_signed(part, length, kind, start, end, depth, lent, count);
-                break;
-            case 13:
-                if (ajuqvane_unsigned) answer[0] = ajuqvane_unsigned(part, length, kind, start, end, depth, lent, count);
-                break;
-            case 14:
-                if (ajuqvane_ticks) answer[0] = ajuqvane_ticks(part, length, kind, start, end, depth, lent, count);
-                break;
-            case 15:
-                if (number > ROOM || after > ROOM / 4 || count > 2) leave(5);
-                if (ajuqvane_write) {
-                    u8 *out = at_end ? other + ROOM - number : other;
-                    u32 *work = (u32 *)(at_end ? works + ROOM - 4 * after : works);
-                    memset(out, 7, number);
-                    for (u64 i = 0; i < after; i++) work[i] = 7;
-                    answer[0] = ajuqvane_write(part, length, out, number, work, after, lent, count);
-                    answer[4] = answer[5] = UNMIXED;
-                    for (u64 i = 0; i < number; i++) answer[4] = mixed(answer[4], out[i]);
-                    for (u64 i = 0; i < after; i++) answer[5] = mixed(answer[5], work[i]);
-                }
-                break;
-            default: leave(5);
-            }
+            asked.answer = answer;
+            u64 touched = 0;
+            if (measure) touched = measured(&asked);
+            else answer_one(&asked);
             memcpy(answer + 1, lent, 8 * count);
+            if (measure) answer[5] = touched;
             memcpy(answers + written, answer, ANSWER);
             written += ANSWER;
         }

@@ -1,7 +1,9 @@
 //! A generator of inputs from a seed: trees within the limits and beyond, payloads tidy, untidy and damaged, places true
-//! and forged, names that nearly match, write lists sound and damaged, and the questions that these give.
+//! and forged, names that nearly match, write lists sound and damaged, objects of many names, and the questions that these give.
 
+pub mod hostile;
 pub mod lists;
+pub mod objects;
 pub mod payloads;
 pub mod places;
 pub mod random;

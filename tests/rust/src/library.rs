@@ -36,6 +36,9 @@ macro_rules! foreign {
 foreign!(has_validate, foreign_validate,
     /// The mask.
     fn ajuqvane_validate(modes: u32, payload: *const u8, length: usize) -> u32);
+foreign!(has_validate_with, foreign_validate_with,
+    /// The mask, with a table of numbers lent, which are zeros afterwards.
+    fn ajuqvane_validate_with(modes: u32, payload: *const u8, length: usize, table: *mut u64, numbers: usize) -> u32);
 foreign!(has_varuint, foreign_varuint,
     /// 0: whole, with value, bytes taken and whether minimal; 1: cut; `TOO_FEW`: fewer than 3 answer numbers lent.
     fn ajuqvane_varuint(part: *const u8, length: usize, answer: *mut u64, count: usize) -> u32);
@@ -105,6 +108,7 @@ foreign!(has_write, foreign_write,
 
 /// Which calls the library has.
 pub const HAS_VALIDATE: bool = cfg!(has_validate);
+pub const HAS_VALIDATE_WITH: bool = cfg!(has_validate_with);
 pub const HAS_VARUINT: bool = cfg!(has_varuint);
 pub const HAS_IS_TEXT: bool = cfg!(has_is_text);
 pub const HAS_ARE_EQUAL: bool = cfg!(has_are_equal);
@@ -138,6 +142,13 @@ pub const TOO_FEW: u32 = 12;
 pub fn validate(modes: u32, payload: &[u8]) -> Option<u32> {
     // Safety: pointer and length are those of a slice.
     unsafe { foreign_validate::call(modes, payload.as_ptr(), payload.len()) }
+}
+
+/// The mask, with a table lent.
+#[inline(always)]
+pub fn validate_with(modes: u32, payload: &[u8], table: &mut [u64]) -> Option<u32> {
+    // Safety: each pointer and length are those of a slice, and the one written to is lent mutably.
+    unsafe { foreign_validate_with::call(modes, payload.as_ptr(), payload.len(), table.as_mut_ptr(), table.len()) }
 }
 
 /// The VarUInt at the front of a part: 0, 1 or `TOO_FEW`, and in the answer its value, the bytes taken, and 1 if it is minimal.

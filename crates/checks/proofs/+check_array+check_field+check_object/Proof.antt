@@ -23,11 +23,11 @@ use native.Mathlib.Omega.{arith}
 use borrow.Author.Needs.{needs}
 use denote.Ref.{now}
 use Rattle.checks.proofs.FieldCases.{field-deep, field-stop, field-leaf, field-fields, field-items, fields-in, items-in}
-use Rattle.checks.proofs.LoopLaws.{Fields, fields-start, fields-out, fields-fault, fields-step, fields-end}
+use Rattle.checks.proofs.LoopLaws.{Fields, fields-start, fields-out, fields-fault, fields-step, fields-nameless}
 use Rattle.checks.proofs.LoopLaws.{Items, items-start, items-fault, items-step, items-left, items-end}
 use Rattle.checks.proofs.SizedItems.{sized-items}
 
-ruleset laws = (field-deep, fields-start, fields-out, fields-fault, fields-end, items-start, items-fault, items-left, items-end, needs)
+ruleset laws = (field-deep, fields-start, fields-out, fields-fault, items-start, items-fault, items-left, items-end, needs)
 
 abbrev μ-check-array : Measures 1 check-array-kinds.ps ℕ
 μ-check-array κs a = 2 * (a .1 .1 .1 .1 .0) + 1
@@ -237,6 +237,4 @@ pub +check-array+check-field+check-object-spec : {M : Type 1} → statement M
     rw (c .add .ensures) (fields-step (a .form) (a .modes) (a .left) (a .faults) (now (a .part)) (l .at) (l .room) (l .met) (l .run) (l .inv)
     (omega arith) (omega arith) _ (c .before .before .before .before .check-field .ensures) _ _ _ (c .before .before .kind .given .1)))
     (λ c κs. search laws)
-    (λ c. let a = c .before .before .before .before .args in let l = c .before .before .loop in
-    fields-end (a .form) (a .modes) (a .left) (a .faults) (now (a .part)) (l .at) (l .room) (l .met) (l .run) (l .inv) (omega arith) _
-    (c .end-object .ensures))
+    (λ c. search (fields-nameless, needs))

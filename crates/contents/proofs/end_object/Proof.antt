@@ -1,9 +1,9 @@
 use borrow.Author.Needs.{needs}
 use Rattle.contents.proofs.end_object.Statement.{statement}
 use Rattle.contents.proofs.end_object.Tie as tie
-use Rattle.contents.proofs.EndLaws.{object-asked, object-unasked}
+use Rattle.contents.proofs.EndLaws.{object-ended}
 
-ruleset laws = (object-asked, object-unasked, needs)
+ruleset laws = (object-ended, needs)
 
 pub end-object-spec : {M : Type 1} → statement M
 end-object-spec =
@@ -13,6 +13,4 @@ end-object-spec =
     (λ c κs. search laws)
     (λ c κs. search laws)
     (λ c κs. search laws)
-    (λ c κs. search laws)
-    (λ c. search laws)
     (λ c. search laws))

@@ -14,14 +14,26 @@ measure-within-spec =
     (λ c. search needs)
     (λ c. search needs)
     (λ c. s-shut _ _ _ _ (search needs) (search needs) _ (all-zero _ _ (c .before .before .before .before .before .clear .ensures)))
-    (λ c κs. (search needs, lent-start _ _ (c .before .before .before .shared-slice-known2 .given) (c .before .before .before .before .before .before .before .before .before .before .before .before .pre .0) (c .before .before .before .before .before .before .before .before .before .before .before .before .pre .1)))
+    (λ c κs. (
+      search needs,
+      lent-start _ (c .before .before .before .shared-slice-known2 .given)
+          (c .before .before .before .before .before .before .before .before .before .before .before .before .pre),
+    ))
     (λ c κs. search needs)
     (λ c. search needs)
     (λ c κs. search needs)
     (λ c. search needs)
     (λ c. search needs)
     (λ c. search needs)
-    (λ c. s-refused _ _ _ _ (search needs) (c .before .before .before .before .before .before .before .before .before .before .before .before .before .before .before .if2 .left) _ _ _ _ _ (c .before .before .before .before .before .before .before .before .before .before .before .before .measure-field .ensures) _ _ (search needs) (c .before .before .before .before .before .before .before .decided .ensures) _ _ (c .before .before .before .before .before .answer .given .1) _ (zero-alike _ _ _ (c .before .before .clear2 .ensures) (search needs)))
+    (λ c. s-refused _ _ _ _ (search needs)
+    (c .before .before .before .before .before .before .before .before .before .before .before .before .before .before .before .if2 .left) _ _ _
+    (c .before .before .before .before .before .before .before .before .before .before .before .before .measure-top .ensures) _ _ (search needs)
+    (c .before .before .before .before .before .before .before .decided .ensures) _ _ (c .before .before .before .before .before .answer .given .1) _
+    (zero-alike _ _ _ (c .before .before .clear2 .ensures) (search needs)))
     (λ c. search needs)
     (λ c. search needs)
-    (λ c. s-ready _ _ _ _ (search needs) (c .before .before .before .before .before .before .before .before .before .before .before .if2 .left) _ _ _ _ _ (c .before .before .before .before .before .before .before .before .measure-field .ensures) _ _ (search needs) (c .before .before .before .decided .ensures) _ _ (c .before .answer2 .given .1) (all-zero _ _ (c .before .before .before .before .before .before .before .before .before .before .before .before .before .before .before .before .clear .ensures))))
+    (λ c. s-ready _ _ _ _ (search needs) (c .before .before .before .before .before .before .before .before .before .before .before .if2 .left) _ _ _
+    (c .before .before .before .before .before .before .before .before .measure-top .ensures) _ _ (search needs)
+    (c .before .before .before .decided .ensures) _ _ (c .before .answer2 .given .1)
+    (all-zero _ _
+    (c .before .before .before .before .before .before .before .before .before .before .before .before .before .before .before .before .clear .ensures))))

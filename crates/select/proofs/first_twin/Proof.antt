@@ -1,9 +1,9 @@
 use borrow.Author.Needs.{needs}
 use Rattle.select.proofs.first_twin.Statement.{statement}
 use Rattle.select.proofs.first_twin.Tie as tie
-use Rattle.select.proofs.SearchReturns.{found}
+use Rattle.select.proofs.FillReturns.{passed, divided-done, divided-unfit}
 
-ruleset laws = (found, needs)
+ruleset laws = (passed, divided-done, divided-unfit, needs)
 
 pub first-twin-spec : {M : Type 1} → statement M
 first-twin-spec =
@@ -13,8 +13,12 @@ first-twin-spec =
     (λ c. search laws)
     (λ c κs. search laws)
     (λ c. search laws)
+    (λ c κs. search laws)
     (λ c. search laws)
-    (λ c κs. search laws)
-    (λ c κs. search laws)
+    (λ c. search laws)
+    (λ c. search laws)
+    (λ c. search laws)
+    (λ c. search laws)
+    (λ c. search laws)
     (λ c. search laws)
     (λ c. search laws))

@@ -1,9 +1,9 @@
 use borrow.Author.Needs.{needs}
 use Rattle.select.proofs.name_at.Statement.{statement}
 use Rattle.select.proofs.name_at.Tie as tie
-use Rattle.select.proofs.RangeReturns.{of-field, of-frame}
+use Rattle.select.proofs.RangeReturns.{of-field, of-frame, of-none}
 
-ruleset laws = (of-field, of-frame, needs)
+ruleset laws = (of-field, of-frame, of-none, needs)
 
 pub name-at-spec : {M : Type 1} → statement M
 name-at-spec =
@@ -13,5 +13,6 @@ name-at-spec =
     (λ c κs. search laws)
     (λ c. search laws)
     (λ c κs. search laws)
+    (λ c. search laws)
     (λ c. search laws)
     (λ c. search laws))

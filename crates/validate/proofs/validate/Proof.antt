@@ -1,10 +1,9 @@
 use borrow.Author.Needs.{needs}
 use Rattle.validate.proofs.validate.Statement.{statement}
 use Rattle.validate.proofs.validate.Tie as tie
-use native.Mathlib.Omega.{arith}
-use Rattle.validate.proofs.MaskCases.{mask-long, mask-stop, mask-fits, mask-read}
+use Rattle.validate.proofs.MaskCases.{mask-long, not-asked}
 
-ruleset laws = (mask-long, mask-stop, mask-read, needs)
+ruleset laws = (mask-long, not-asked, needs)
 
 pub validate-spec : {M : Type 1} → statement M
 validate-spec =
@@ -13,35 +12,17 @@ validate-spec =
     (λ c κs. search laws)
     (λ c. search laws)
     (λ c κs. search laws)
+    (λ c. search laws)
     (λ c κs. search laws)
+    (λ c. search laws)
+    (λ c. search laws)
     (λ c κs. search laws)
+    (λ c. search laws)
+    (λ c. search laws)
+    (λ c κs. search laws)
+    (λ c. search laws)
     (λ c. search laws)
     (λ c κs. search laws)
     (λ c. search laws)
     (λ c κs. search laws)
-    (λ c. search laws)
-    (λ c κs. search laws)
-    (λ c. omega (
-      arith,
-      mask-fits (c .before .before .before .before .before .before .before .before .before .before .args .modes)
-          (c .before .before .before .before .before .before .before .before .before .before .args .payload .now) (omega arith) _ _
-          (c .before .before .before .before .before .before .before .is-asked .ensures)
-          (c .before .before .before .before .before .before .is-asked2 .ensures) _ (c .before .before .before .before .before .no-faults .ensures) _
-          (c .before .before .before .before .check-field .ensures) _ _ _ (c .before .before .kind .given .1) _ (c .sum-of .ensures),
-    ))
-    (λ c κs. search laws)
-    (λ c κs. search laws)
-    (λ c. omega (
-      arith,
-      c .value-if .ensures .1,
-      mask-fits
-          (c .before .before .before .before .before .before .before .before .before .before .before .before .args .modes)
-          (c .before .before .before .before .before .before .before .before .before .before .before .before .args .payload .now) (omega arith) _ _
-          (c .before .before .before .before .before .before .before .before .before .is-asked .ensures)
-          (c .before .before .before .before .before .before .before .before .is-asked2 .ensures) _
-          (c .before .before .before .before .before .before .before .no-faults .ensures) _
-          (c .before .before .before .before .before .before .check-field .ensures) _ _ _ (c .before .before .before .before .kind .given .1) _
-          (c .before .before .sum-of .ensures),
-    ))
-    (λ c. search laws)
     (λ c. search laws))

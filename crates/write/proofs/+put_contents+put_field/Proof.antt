@@ -7,7 +7,7 @@ use Rattle.write.proofs.+put_contents+put_field.Lts-put_contents as put
 use Rattle.write.proofs.put_field.Reads as put-field
 use Rattle.write.proofs.put_field.Kinds as put-field-kinds
 use Rattle.write.proofs.+put_contents+put_field.Lts-put_field as put-field-lts
-use Rattle.write.proofs.final_id.Reads as final-id-reads
+use Rattle.output.proofs.final_id.Reads as final-id-reads
 use Rattle.container.proofs.number_at.Reads as number-at-reads
 use Rattle.write.proofs.put_count.Reads as put-count-reads
 use Rattle.write.proofs.put_front.Reads as put-front-reads
@@ -108,7 +108,7 @@ pub +put-contents+put-field-spec : {M : Type 1} → statement M
     (λ c. omega (arith, put-low _ _ _ _ _ _ _ _ _ (c .before .before .before .before .pre .1)))
     (λ c κs. (put-low _ _ _ _ _ _ _ _ _ (c .before .before .before .before .pre .1), put-short _ _ _ _ _ _ _ _ _ (c .before .before .before .before .pre .1)))
     (λ c κs. search needs)
-    (λ c κs. put-inside _ _ _ _ _ _ _ _ _ (c .before .before .before .before .before .before .before .pre .1) _ (c .before .before .start-of .ensures))
+    (λ c κs. search needs)
     (λ c. omega (arith, put-low _ _ _ _ _ _ _ _ _ (c .before .before .before .before .before .before .before .before .pre .1)))
     (λ c κs. (put-after _ _ _ _ _ _ _ _ _ (c .before .before .before .before .before .before .before .before .before .pre .1) _ (c .before .before .before .before .start-of .ensures) _ (c .before .before .number-at .ensures) _ (c .before .final-id .ensures), put-inside _ _ _ _ _ _ _ _ _ (c .before .before .before .before .before .before .before .before .before .pre .1) _ (c .before .before .before .before .start-of .ensures), put-front-room _ _ _ _ _ _ _ _ _ (c .before .before .before .before .before .before .before .before .before .pre .1) _ (c .before .before .before .before .start-of .ensures) _ (c .before .before .number-at .ensures) _ (c .before .final-id .ensures), put-id _ _ _ _ _ _ _ _ _ (c .before .before .before .before .before .before .before .before .before .pre .1) _ (c .before .before .before .before .start-of .ensures) _ (c .before .before .number-at .ensures) _ (c .before .final-id .ensures)))
     (λ c. put-deep _ _ _ _ _ _ _ _ _ (c .before .before .before .before .before .before .before .before .before .before .before .before .before .before .before .pre .1))

@@ -3,65 +3,30 @@
 //! x86-64. Every payload and list stands between pages that cannot be touched, against the end of its page or the start. The last line
 //! is `compared N, differences M`; the exit status is 1 if M is not 0, and 2 if the library has no call or the program ends.
 
-use std::io::{Read, Write};
-use std::process::{Child, ChildStdin, ChildStdout, Command, ExitCode, Stdio};
+use std::process::ExitCode;
 
+use ajuqvane_tests::caller::{push_request, Arguments, Call, Caller, Given, ABSENT};
 use ajuqvane_tests::cases::{hexadecimal, Question};
+use ajuqvane_tests::generate::objects::object;
 use ajuqvane_tests::generate::{lists, payloads, places, Random};
-use ajuqvane_tests::independent::places::{check, Place};
+use ajuqvane_tests::independent::places::check;
 use ajuqvane_tests::independent::write::write;
 use ajuqvane_tests::independent::{float, mask, number, text};
 use ajuqvane_tests::library::TOO_FEW;
 use ajuqvane_tests::reading::Reading;
 
 const SEED: u64 = 23;
-/// What a call that is not there answers.
-const ABSENT: u64 = 0xABAB_ABAB_ABAB_ABAB;
 /// Payloads in a block of requests.
 const BLOCK: u64 = 100;
 /// At most so many differences are printed.
 const PRINTED: u64 = 20;
 
-#[derive(Clone, Copy, Debug)]
-#[repr(u8)]
-enum Call {
-    Validate,
-    VarUInt,
-    IsText,
-    AreEqual,
-    Float32Holds,
-    Widen,
-    Check,
-    Top,
-    Step,
-    View,
-    Lookup,
-    Double,
-    Signed,
-    Unsigned,
-    Ticks,
-    Write,
-}
-
+/// Objects of many names have at most so many bytes.
+const NAMES: usize = 8_192;
 /// Questions about places of each payload.
 const PLACES: usize = 12;
 /// What lent numbers hold before a call.
 const BEFORE: u64 = 7;
-
-/// The arguments of a call beside its bytes.
-#[derive(Clone, Copy, Debug, Default)]
-struct Arguments {
-    /// What it means is the call's.
-    number: u64,
-    place: Option<Place>,
-    some: u32,
-    last: u64,
-    /// How many numbers are lent.
-    count: usize,
-}
-
-/// What is answered, and the lent numbers afterwards, then 0; of the writer in the last two what output and work numbers mix to.
-type Given = [u64; 6];
 
 /// A request and the answer that is expected.
 struct Asked {
@@ -96,14 +61,7 @@ fn given(code: u32, written: &[u64], count: usize) -> Given {
 
 impl Requests {
     fn ask(&mut self, random: &mut Random, call: Call, arguments: Arguments, bytes: &[u8], expected: Given) {
-        let Arguments { number, place, some, last, count } = arguments;
-        let Place { kind, start, end, depth } = place.unwrap_or(Place { kind: 0, start: 0, end: 0, depth: 0 });
-        self.bytes.extend([call as u8, random.below(2) as u8]);
-        for number in [number, kind.into(), start, end, depth.into(), some.into(), last, count as u64] {
-            self.bytes.extend(number.to_le_bytes());
-        }
-        self.bytes.extend((bytes.len() as u32).to_le_bytes());
-        self.bytes.extend(bytes);
+        push_request(&mut self.bytes, call as u8, random.below(2) == 1, arguments, bytes);
         self.asked.push(Asked { call, arguments, bytes: bytes.to_vec(), expected });
     }
 
@@ -171,8 +129,7 @@ impl Requests {
         let other = random.next() as u32;
         let with = |number: u64| Arguments { number, ..Arguments::default() };
         for modes in (0..8).chain([other]) {
-            let answer = mask::mask(modes, &payload);
-            self.ask(random, Call::Validate, with(modes.into()), &payload, given(answer, &[], 0));
+            self.ask_mask(random, modes, &payload);
         }
         for question in places::questions(random, &payload, PLACES) {
             if let Some((bytes, reading)) = question.reading() {
@@ -209,37 +166,27 @@ impl Requests {
                 self.ask_writer(random, &list, output_length, work_length);
             }
         }
-    }
-}
-
-/// The program that calls the library.
-struct Caller {
-    child: Child,
-    input: ChildStdin,
-    output: ChildStdout,
-}
-
-impl Caller {
-    fn start(command: &[String]) -> std::io::Result<Caller> {
-        let [program, arguments @ ..] = command else { return Err(std::io::ErrorKind::InvalidInput.into()) };
-        let mut child = Command::new(program).args(arguments).stdin(Stdio::piped()).stdout(Stdio::piped()).spawn()?;
-        let (input, output) = (child.stdin.take(), child.stdout.take());
-        let (Some(input), Some(output)) = (input, output) else { return Err(std::io::ErrorKind::BrokenPipe.into()) };
-        Ok(Caller { child, input, output })
+        self.ask_names(random);
     }
 
-    fn answers(&mut self, requests: &Requests) -> std::io::Result<Vec<Given>> {
-        self.input.write_all(&(requests.bytes.len() as u32).to_le_bytes())?;
-        self.input.write_all(&requests.bytes)?;
-        self.input.flush()?;
-        let mut length = [0; 4];
-        self.output.read_exact(&mut length)?;
-        let mut bytes = vec![0; u32::from_le_bytes(length) as usize];
-        self.output.read_exact(&mut bytes)?;
-        let numbers =
-            bytes.chunks_exact(8).map(|chunk| chunk.iter().rev().fold(0, |n, byte| n << 8 | u64::from(*byte)));
-        let numbers: Vec<u64> = numbers.collect();
-        Ok(numbers.chunks_exact(6).map(|six| std::array::from_fn(|at| six[at])).collect())
+    /// The mask, without a table and with one, which holds zeros afterwards.
+    fn ask_mask(&mut self, random: &mut Random, modes: u32, payload: &[u8]) {
+        let answer = mask::mask(modes, payload);
+        let arguments = Arguments { number: modes.into(), ..Arguments::default() };
+        self.ask(random, Call::Validate, arguments, payload, given(answer, &[], 0));
+        let last = *random.pick(&[0, 1, 3, 4, 5, 17, 64, payload.len() / 3, 32_768]) as u64;
+        self.ask(random, Call::ValidateWith, Arguments { last, ..arguments }, payload, given(answer, &[], 0));
+    }
+
+    /// The masks and the writer on an object of many names.
+    fn ask_names(&mut self, random: &mut Random) {
+        let value = object(random);
+        let (payload, list) = (value.payload(), value.list());
+        if payload.len() <= NAMES {
+            self.ask_mask(random, 1, &payload);
+            self.ask_mask(random, 7, &payload);
+            self.ask_writer(random, &list.bytes, list.bytes.len() + 4 * list.containers, list.containers);
+        }
     }
 }
 
@@ -262,7 +209,7 @@ fn main() -> ExitCode {
         for index in first..count.min(first + BLOCK) {
             requests.ask_all(&mut Random::new(SEED, index));
         }
-        let answers = match caller.answers(&requests) {
+        let answers = match caller.answers(&requests.bytes) {
             Ok(answers) if answers.len() == requests.asked.len() => answers,
             _ => {
                 let ended = caller.child.wait().map_or("?".to_string(), |status| status.to_string());

@@ -13,11 +13,11 @@ use std::process::ExitCode;
 use ajuqvane_tests::cases::{hexadecimal, Answer, Answers, Independent, Question};
 use ajuqvane_tests::generate::{lists, mask_questions, payloads, places, Random};
 use ajuqvane_tests::independent::tree::tree_of;
-use ajuqvane_tests::independent::{number, places as independent_places, text};
+use ajuqvane_tests::independent::{mask, number, places as independent_places, text};
 use ajuqvane_tests::library::{self, Library};
 use ajuqvane_tests::reading::Reading;
 use ajuqvane_tests::walk::walk;
-use ajuqvane_tests::{program, writing};
+use ajuqvane_tests::{program, tables, writing};
 
 /// The seed if none is given.
 const SEED: u64 = 20_260_101;
@@ -27,6 +27,9 @@ const PLACES: usize = 12;
 const WALKED: usize = 16;
 /// The program is asked about one of so many lists.
 const PROGRAM: u64 = 400;
+/// Tables of so many numbers are lent to the validator, for payloads of fewer bytes than these; short ones take long.
+const TABLES: [usize; 10] = [0, 1, 2, 3, 4, 5, 16, 33, 64, 1_000];
+const TABLED: usize = 2_000;
 /// At most so many failing inputs are printed.
 const PRINTED: u64 = 20;
 
@@ -130,9 +133,17 @@ fn write_list(random: &mut Random) -> Vec<u8> {
     }
 }
 
-/// What a case file has no question for: the check of a place by itself, the other numbers that say of a step whether there
-/// is a last place, and a writer that is lent no number for its answer.
+/// What a case file has no question for: the mask with a table lent, the check of a place by itself, the other numbers that say
+/// of a step whether there is a last place, and a writer that is lent no number for its answer.
 fn compare_more(random: &mut Random, question: &Question, tally: &mut Tally) {
+    if let Question::Mask { modes, bytes } = question {
+        let numbers = if bytes.len() < TABLED { *random.pick(&TABLES) } else { bytes.len() / 3 };
+        if let Some(held) = tables::holds(*modes, bytes, numbers, || mask::mask(*modes, bytes)) {
+            tally.hold("mask with a table", held.is_ok(), || {
+                format!("{question}\tlibrary, with {numbers} numbers: {}", held.unwrap_err())
+            });
+        }
+    }
     if let Question::Write { list, output_length, work_length } = question {
         if let Some(refuses) = writing::refuses_none_lent(list, *output_length, *work_length) {
             tally.hold("write, no number lent", refuses, || format!("{question}\twith no number lent for the answer"));

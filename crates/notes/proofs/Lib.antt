@@ -1,0 +1,4 @@
+pub mod NoteLaws
+mod NoteReturns
+pub mod PinnedNotes
+pub mod OneAnswer

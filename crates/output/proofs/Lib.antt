@@ -1,0 +1,4 @@
+pub mod CopyReturns
+pub mod EncodedReturns
+pub mod PinnedOutput
+pub mod OneAnswer

@@ -1,0 +1,3 @@
+pub mod SentLaws
+pub mod OneAnswer
+pub mod Refusals

@@ -1,0 +1,4 @@
+pub mod SecondReturns
+pub mod FitReturns
+pub mod PinnedTables
+pub mod OneAnswer

@@ -1,0 +1,20 @@
+-- Where the second of some entries begins, in the order of the part.
+use Prim.Native.Nat.{ℕ, _+_}
+use mathlib.Core.Bool.{cond}
+use mathlib.Core.List.{List, [], _∷_}
+use lib.Dec.{ltb}
+use Rattle.entries.specs.Entry.{beginIn}
+use Rattle.entries.specs.Least.{lesser}
+
+-- the lesser of two places, if the first does not stand before the bound
+abbrev pub nearer : ℕ → ℕ → ℕ → ℕ
+nearer b bound r = cond (ltb b bound) r (lesser b r)
+
+-- the least beginning from a bound on; 16777216 if there is none
+unfoldable pub smallest : ℕ → List ℕ → ℕ
+smallest bound [] = 16777216
+smallest bound (x ∷ t) = nearer (beginIn x) bound (smallest bound t)
+
+-- the least beginning but one; 16777216 if there is none
+unfoldable pub second : List ℕ → ℕ
+second t = smallest (smallest 0 t + 1) t
