@@ -1,11 +1,8 @@
-// Names of a part in a table: each is one number, and the table is put in their order.
+// The entries of a table, put in the order of their names, up to the first that has the name of one before it.
 ghost use mathlib.Core.Path.{_≡_};
 ghost use mathlib.Core.List.{_++_};
 ghost use Prim.Native.Nat.{_+_, _-_, _*_, _≤_, _<_};
 ghost use lib.ListN.{length, take, replicate};
-ghost use Rattle.entries.specs.Entry.{beginIn, bytesAt, nameIn, entryOf};
-ghost use Rattle.entries.specs.Order.{order, upto};
-ghost use Rattle.entries.specs.Least.{isFirst};
 ghost use Rattle.order.specs.Arranged.{arranged, afterwards};
 ghost use Rattle.order.specs.Passes.{Holds, Halves, Copies, Merges, Joins, Sorts, Tells, Keeps, Seconds, leastNext, countBefore};
 

@@ -26,18 +26,21 @@ use borrow.Author.Needs.{needs}
 use native.Mathlib.Omega.{arith}
 use Prim.Native.Nat.{_+_, _*_, _-_}
 use denote.Ref.{now}
-use mathlib.Core.Path.{refl, _∙_}
+use mathlib.Core.Path.{refl}
 use Rattle.checks.proofs.FieldCases.{fields-in, items-in}
 use Rattle.checks.proofs.SizedItems.{sized-items}
-use Rattle.validate.proofs.NamedCases.{fields-short, items-short, rest-short, kept, kept-length, named-deep, named-stop, named-leaf, named-fields, named-items}
-use Rattle.validate.proofs.ObjectLaws.{Object, object-start, object-kept, object-out, object-held, back-kept, object-fault, object-inside, object-name, object-starts, object-step, object-end, object-lent}
-use Rattle.validate.proofs.ArrayLaws.{Array, array-start, array-kept, array-back, array-at, array-fault, array-inside, array-step, array-left, array-end}
+use Rattle.validate.proofs.NamedCases.{fields-short, items-short, rest-short, kept}
+use Rattle.validate.proofs.NamedCases.{named-deep, named-stop, named-leaf, named-fields, named-items}
+use Rattle.validate.proofs.ObjectLaws.{Object, object-start, object-kept, object-out, object-held, back-kept}
+use Rattle.validate.proofs.ObjectLaws.{object-fault, object-inside, object-name, object-starts, object-step, object-end, object-lent}
+use Rattle.validate.proofs.ArrayLaws.{Array, array-start, array-kept, array-back, array-at}
+use Rattle.validate.proofs.ArrayLaws.{array-fault, array-inside, array-step, array-left, array-end}
 
-ruleset array-laws = (kept, sized-items, rest-short, array-start, array-kept, array-back, array-at, array-fault, array-inside, array-step, array-left, array-end, needs)
+ruleset array-laws = (kept, sized-items, rest-short, array-start, array-kept, array-back, array-at, array-fault, array-step, array-left, array-end, needs)
 
 ruleset field-laws = (kept, fields-short, items-short, named-deep, named-stop, named-leaf, named-fields, named-items, needs)
 
-ruleset object-laws = (kept, rest-short, object-start, object-kept, object-out, object-held, back-kept, object-fault, object-inside, object-name, object-starts, object-step, object-end, needs)
+ruleset object-laws = (kept, rest-short, object-start, object-kept, object-out, needs)
 
 abbrev μ-check-array : Measures 2 check-array-kinds.ps ℕ
 μ-check-array κs a = 2 * (a .1 .1 .1 .1 .0) + 1
@@ -77,13 +80,15 @@ check-object-below t =
     check-object.Pre
 
 abbrev check-array-Inv-loop : check-array-lts.InvT-loop
-check-array-Inv-loop part form count modes left table₀ size at₀ room₀ met₀ run₀ table at room met run = Array form count modes left met₀ part table₀ table at room met run
+check-array-Inv-loop part form count modes left table₀ size at₀ room₀ met₀ run₀ table at room met run =
+    Array form count modes left met₀ part table₀ table at room met run
 
 abbrev check-array-μ-loop : check-array-lts.MeasureT-loop
 check-array-μ-loop part form count modes left table₀ size at₀ room₀ met₀ run₀ table at room met run = room
 
 abbrev check-object-Inv-loop : check-object-lts.InvT-loop
-check-object-Inv-loop part form modes left table₀ at₀ room₀ met₀ run₀ notes₀ table at room met run notes = Object form modes left met₀ part table₀ table at room met run notes
+check-object-Inv-loop part form modes left table₀ at₀ room₀ met₀ run₀ notes₀ table at room met run notes =
+    Object form modes left met₀ part table₀ table at room met run notes
 
 abbrev check-object-μ-loop : check-object-lts.MeasureT-loop
 check-object-μ-loop part form modes left table₀ at₀ room₀ met₀ run₀ notes₀ table at room met run notes = room
@@ -119,7 +124,12 @@ pub +check-array+check-field+check-object-spec : {M : Type 1} → statement M
     (λ c. search (array-fault, array-back, needs))
     (λ c. search array-laws)
     (λ c κs. search array-laws)
-    (λ c. let l = c .before .before .before .before .before .before .before .before .before .before .loop in omega (arith, array-inside _ _ _ _ _ _ _ _ _ _ _ _ (l .inv) (omega arith) _ (c .before .before .before .before .before .before .check-field .ensures .0) _ _ _ _ _ (c .before .before .kind .given .1)))
+    (λ c. let l = c .before .before .before .before .before .before .before .before .before .before .loop in omega (
+      arith,
+      array-inside _ _ _ _ _ _ _ _ _ _
+          _ _ (l .inv) (omega arith) _ (c .before .before .before .before .before .before .check-field .ensures .0) _ _ _ _ _
+          (c .before .before .kind .given .1),
+    ))
     (λ c. search array-laws)
     (λ c. search array-laws)
     (λ c. search array-laws)
@@ -148,25 +158,69 @@ pub +check-array+check-field+check-object-spec : {M : Type 1} → statement M
     (λ c. search field-laws)
     (λ c. search field-laws)
     (λ c. search field-laws)
-    (λ c. let a = c .before .before .before .before .before .before .before .before .args in omega (arith, fields-in (a .form) (a .modes) (a .faults) (now (a .part)) _ (c .before .before .before .meet-of .ensures) _ _ _ _ _ _ _ (c .before .kind2 .given .1)))
-    (λ c. let a = c .before .before .before .before .before .before .before .before .args in omega (arith, fields-in (a .form) (a .modes) (a .faults) (now (a .part)) _ (c .before .before .before .meet-of .ensures) _ _ _ _ _ _ _ (c .before .kind2 .given .1)))
-    (λ c. let a = c .before .before .before .before .before .before .before .before .args in omega (arith, fields-in (a .form) (a .modes) (a .faults) (now (a .part)) _ (c .before .before .before .meet-of .ensures) _ _ _ _ _ _ _ (c .before .kind2 .given .1)))
+    (λ c. let a = c .before .before .before .before .before .before .before .before .args in omega (
+      arith,
+      fields-in (a .form) (a .modes) (a .faults) (now
+          (a .part)) _ (c .before .before .before .meet-of .ensures) _ _ _ _ _ _ _ (c .before .kind2 .given .1),
+    ))
+    (λ c. let a = c .before .before .before .before .before .before .before .before .args in omega (
+      arith,
+      fields-in (a .form) (a .modes) (a .faults) (now
+          (a .part)) _ (c .before .before .before .meet-of .ensures) _ _ _ _ _ _ _ (c .before .kind2 .given .1),
+    ))
+    (λ c. let a = c .before .before .before .before .before .before .before .before .args in omega (
+      arith,
+      fields-in (a .form) (a .modes) (a .faults) (now
+          (a .part)) _ (c .before .before .before .meet-of .ensures) _ _ _ _ _ _ _ (c .before .kind2 .given .1),
+    ))
     (λ c. search field-laws)
     (λ c κs. search field-laws)
     (λ c κs. search field-laws)
     (λ c. search field-laws)
-    (λ c. let a = c .before .before .before .before .before .before .before .before .args in omega (arith, items-in (a .form) (a .modes) (a .faults) (now (a .part)) _ (c .before .before .before .meet-of .ensures) _ _ _ _ _ _ _ _ (c .before .kind3 .given .1)))
-    (λ c. let a = c .before .before .before .before .before .before .before .before .args in omega (arith, items-in (a .form) (a .modes) (a .faults) (now (a .part)) _ (c .before .before .before .meet-of .ensures) _ _ _ _ _ _ _ _ (c .before .kind3 .given .1)))
-    (λ c. let a = c .before .before .before .before .before .before .before .before .args in omega (arith, items-in (a .form) (a .modes) (a .faults) (now (a .part)) _ (c .before .before .before .meet-of .ensures) _ _ _ _ _ _ _ _ (c .before .kind3 .given .1)))
+    (λ c. let a = c .before .before .before .before .before .before .before .before .args in omega (
+      arith,
+      items-in (a .form) (a .modes) (a .faults) (now
+          (a .part)) _ (c .before .before .before .meet-of .ensures) _ _ _ _ _ _ _ _ (c .before .kind3 .given .1),
+    ))
+    (λ c. let a = c .before .before .before .before .before .before .before .before .args in omega (
+      arith,
+      items-in (a .form) (a .modes) (a .faults) (now
+          (a .part)) _ (c .before .before .before .meet-of .ensures) _ _ _ _ _ _ _ _ (c .before .kind3 .given .1),
+    ))
+    (λ c. let a = c .before .before .before .before .before .before .before .before .args in omega (
+      arith,
+      items-in (a .form) (a .modes) (a .faults) (now
+          (a .part)) _ (c .before .before .before .meet-of .ensures) _ _ _ _ _ _ _ _ (c .before .kind3 .given .1),
+    ))
     (λ c. search field-laws)
     (λ c κs. search field-laws)
     (λ c κs. search field-laws)
-    (λ c. let a = c .before .before .before .before .before .before .before .before .args in (named-stop (a .form) (a .modes) (a .faults) (now (a .part)) _ (c .before .before .before .meet-of .ensures) (a .left) (a .left - 1) (omega arith) _ (c .before .stop .given .1), kept _))
-    (λ c. let a = c .before .before .before .before .before .before .before .before .args in (named-leaf (a .form) (a .modes) (a .faults) (now (a .part)) _ (c .before .before .before .meet-of .ensures) (a .left) (a .left - 1) (omega arith) _ _ _ _ _ (c .before .kind .given .1), kept _))
+    (λ c. let a = c .before .before .before .before .before .before .before .before .args in (
+      named-stop (a .form) (a .modes) (a .faults) (now (a .part)) _
+          (c .before .before .before .meet-of .ensures) (a .left) (a .left - 1) (omega arith) _ (c .before .stop .given .1),
+      kept _,
+    ))
+    (λ c. let a = c .before .before .before .before .before .before .before .before .args in (
+      named-leaf (a .form) (a .modes) (a .faults) (now (a .part)) _
+          (c .before .before .before .meet-of .ensures) (a .left) (a .left - 1) (omega arith) _ _ _ _ _ (c .before .kind .given .1),
+      kept _,
+    ))
     (λ c. search field-laws)
-    (λ c. let a = c .before .before .before .before .before .before .before .before .before .before .before .before .before .before .args in (named-fields (a .form) (a .modes) (a .faults) (now (a .part)) _ (c .before .before .before .before .before .before .before .before .before .meet-of .ensures) (a .left) (a .left - 1) (omega arith) _ _ _ _ _ _ _ (c .before .before .before .before .before .before .before .kind2 .given .1) _ (c .before .before .before .check-object .ensures .0) _ (c .close .ensures), c .before .before .before .check-object .ensures .1))
+    (λ c. let a = c .before .before .before .before .before .before .before .before .before .before .before .before .before .before .args in (
+      named-fields
+          (a .form) (a .modes) (a .faults) (now (a .part)) _ (c .before .before .before .before .before .before .before .before .before .meet-of .ensures)
+          (a .left) (a .left - 1) (omega arith) _ _ _ _ _ _ _ (c .before .before .before .before .before .before .before .kind2 .given .1) _
+          (c .before .before .before .check-object .ensures .0) _ (c .close .ensures),
+      c .before .before .before .check-object .ensures .1,
+    ))
     (λ c. search field-laws)
-    (λ c. let a = c .before .before .before .before .before .before .before .before .before .before .before .before .before .before .args in (named-items (a .form) (a .modes) (a .faults) (now (a .part)) _ (c .before .before .before .before .before .before .before .before .before .meet-of .ensures) (a .left) (a .left - 1) (omega arith) _ _ _ _ _ _ _ _ (c .before .before .before .before .before .before .before .kind3 .given .1) _ (c .before .before .before .check-array .ensures .0) _ (c .close2 .ensures), c .before .before .before .check-array .ensures .1)))
+    (λ c. let a = c .before .before .before .before .before .before .before .before .before .before .before .before .before .before .args in (
+      named-items
+          (a .form) (a .modes) (a .faults) (now (a .part)) _ (c .before .before .before .before .before .before .before .before .before .meet-of .ensures)
+          (a .left) (a .left - 1) (omega arith) _ _ _ _ _ _ _ _ (c .before .before .before .before .before .before .before .kind3 .given .1) _
+          (c .before .before .before .check-array .ensures .0) _ (c .close2 .ensures),
+      c .before .before .before .check-array .ensures .1,
+    )))
     λ t. check-object-lts.spec (
       held-reads.Asked,
       held-reads.Learnt,
@@ -198,16 +252,60 @@ pub +check-array+check-field+check-object-spec : {M : Type 1} → statement M
     (λ c. omega (arith, object-held _ _ _ _ _ _ _ _ _ _ _ _ (c .before .before .before .before .loop .inv) _ (c .before .held .ensures)))
     (λ c κs. search object-laws)
     (λ c. search object-laws)
-    (λ c. back-kept _ _ _ _ _ _ _ _ _ _ _ _ (c .before .before .before .before .before .before .before .before .before .before .before .loop .inv) _ (c .before .before .before .before .before .before .before .before .held .ensures) _ _ (c .before .before .before .before .before .check-field .ensures .1) refl .is)
-    (λ c. (object-fault _ _ _ _ _ _ _ _ _ _ _ _ (c .before .before .before .before .before .before .before .before .before .before .before .loop .inv) _ (c .before .before .before .before .before .before .before .before .held .ensures) _ _ (c .before .before .before .before .before .check-field .ensures .1) refl (omega arith) (omega arith) _ (c .before .before .before .before .before .check-field .ensures .0) _ (c .before .stop .given .1), back-kept _ _ _ _ _ _ _ _ _ _ _ _ (c .before .before .before .before .before .before .before .before .before .before .before .loop .inv) _ (c .before .before .before .before .before .before .before .before .held .ensures) _ _ (c .before .before .before .before .before .check-field .ensures .1) refl))
+    (λ c. back-kept _ _ _ _ _ _ _ _ _ _ _ _ (c .before .before .before .before .before .before .before .before .before .before .before .loop .inv) _
+    (c .before .before .before .before .before .before .before .before .held .ensures) _ _
+    (c .before .before .before .before .before .check-field .ensures .1) refl .is)
+    (λ c. (
+      object-fault _ _ _ _ _ _ _ _ _ _ _ _ (c .before .before .before .before .before .before .before .before .before .before .before .loop .inv) _
+          (c .before .before .before .before .before .before .before .before .held .ensures) _ _
+          (c .before .before .before .before .before .check-field .ensures .1) refl (omega arith) (omega arith) _
+          (c .before .before .before .before .before .check-field .ensures .0) _ (c .before .stop .given .1),
+      back-kept _ _ _ _ _ _ _ _ _ _ _ _
+          (c .before .before .before .before .before .before .before .before .before .before .before .loop .inv) _
+          (c .before .before .before .before .before .before .before .before .held .ensures) _ _
+          (c .before .before .before .before .before .check-field .ensures .1) refl,
+    ))
     (λ c. search object-laws)
-    (λ c κs. (c .before .before .before .before .before .before .before .before .before .before .before .before .before .before .before .pre .1, omega arith, object-name _ _ _ _ _ _ _ _ _ _ _ _ (c .before .before .before .before .before .before .before .before .before .before .before .before .loop .inv) _ (c .before .before .before .before .before .before .before .before .before .held .ensures) _ _ (c .before .before .before .before .before .before .check-field .ensures .1) refl (omega arith) (omega arith) _ (c .before .before .before .before .before .before .check-field .ensures .0) _ _ _ _ _ (c .before .before .kind .given .1), object-starts _ _ _ _ _ _ _ _ _ _ _ _ (c .before .before .before .before .before .before .before .before .before .before .before .before .loop .inv) _ (c .before .before .before .before .before .before .before .before .before .held .ensures) _ _ (c .before .before .before .before .before .before .check-field .ensures .1) refl (omega arith) (omega arith) _ (c .before .before .before .before .before .before .check-field .ensures .0) _ _ _ _ _ (c .before .before .kind .given .1)))
+    (λ c κs. (
+      c .before .before .before .before .before .before .before .before .before .before .before .before .before .before .before .pre .1,
+      omega arith,
+      object-name _ _ _ _ _ _ _ _ _ _ _ _
+          (c .before .before .before .before .before .before .before .before .before .before .before .before .loop .inv) _
+          (c .before .before .before .before .before .before .before .before .before .held .ensures) _ _
+          (c .before .before .before .before .before .before .check-field .ensures .1) refl (omega arith) (omega arith) _
+          (c .before .before .before .before .before .before .check-field .ensures .0) _ _ _ _ _ (c .before .before .kind .given .1),
+      object-starts _ _ _ _ _ _ _
+          _ _ _ _ _ (c .before .before .before .before .before .before .before .before .before .before .before .before .loop .inv) _
+          (c .before .before .before .before .before .before .before .before .before .held .ensures) _ _
+          (c .before .before .before .before .before .before .check-field .ensures .1) refl (omega arith) (omega arith) _
+          (c .before .before .before .before .before .before .check-field .ensures .0) _ _ _ _ _ (c .before .before .kind .given .1),
+    ))
     (λ c κs. search object-laws)
-    (λ c. omega (arith, object-inside _ _ _ _ _ _ _ _ _ _ _ _ (c .before .before .before .before .before .before .before .before .before .before .before .before .before .before .before .before .loop .inv) _ (c .before .before .before .before .before .before .before .before .before .before .before .before .before .held .ensures) _ _ (c .before .before .before .before .before .before .before .before .before .before .check-field .ensures .1) refl (omega arith) (omega arith) _ (c .before .before .before .before .before .before .before .before .before .before .check-field .ensures .0) _ _ _ _ _ (c .before .before .before .before .before .before .kind .given .1)))
+    (λ c. omega (
+      arith,
+      object-inside _ _ _ _ _ _ _ _ _ _ _ _
+          (c .before .before .before .before .before .before .before .before .before .before .before .before .before .before .before .before .loop .inv) _
+          (c .before .before .before .before .before .before .before .before .before .before .before .before .before .held .ensures) _ _
+          (c .before .before .before .before .before .before .before .before .before .before .check-field .ensures .1) refl (omega arith) (omega arith) _
+          (c .before .before .before .before .before .before .before .before .before .before .check-field .ensures .0) _ _ _ _ _
+          (c .before .before .before .before .before .before .kind .given .1),
+    ))
     (λ c. search object-laws)
     (λ c. search object-laws)
-    (λ c. object-step _ _ _ _ _ _ _ _ _ _ _ _ (c .before .before .before .before .before .before .before .before .before .before .before .before .before .before .before .before .loop .inv) _ (c .before .before .before .before .before .before .before .before .before .before .before .before .before .held .ensures) _ _ (c .before .before .before .before .before .before .before .before .before .before .check-field .ensures .1) refl (omega arith) (omega arith) _ (c .before .before .before .before .before .before .before .before .before .before .check-field .ensures .0) _ _ _ _ _ (c .before .before .before .before .before .before .kind .given .1) _ _ (c .before .before .before .note .ensures) _ (c .add .ensures))
+    (λ c. object-step _ _ _ _ _ _ _ _ _ _ _ _
+    (c .before .before .before .before .before .before .before .before .before .before .before .before .before .before .before .before .loop .inv) _
+    (c .before .before .before .before .before .before .before .before .before .before .before .before .before .held .ensures) _ _
+    (c .before .before .before .before .before .before .before .before .before .before .check-field .ensures .1) refl (omega arith) (omega arith) _
+    (c .before .before .before .before .before .before .before .before .before .before .check-field .ensures .0) _ _ _ _ _
+    (c .before .before .before .before .before .before .kind .given .1) _ _ (c .before .before .before .note .ensures) _ (c .add .ensures))
     (λ c κs. search object-laws)
     (λ c κs. search object-laws)
-    (λ c. object-lent _ _ _ _ _ _ _ _ _ _ _ _ (c .before .before .before .before .before .before .loop .inv) _ _ (c .before .before .before .first-twin .ensures) .is)
-    (λ c. (object-end _ _ _ _ _ _ _ _ _ _ _ _ (c .before .before .before .before .before .before .loop .inv) (c .before .before .before .before .before .before .before .before .before .pre .1) (omega arith) _ _ (c .before .before .before .first-twin .ensures) _ (c .end-object .ensures), object-lent _ _ _ _ _ _ _ _ _ _ _ _ (c .before .before .before .before .before .before .loop .inv) _ _ (c .before .before .before .first-twin .ensures)))
+    (λ c. object-lent _ _ _ _ _ _ _ _ _ _ _ _ (c .before .before .before .before .before .before .loop .inv) _ _
+    (c .before .before .before .first-twin .ensures) .is)
+    (λ c. (
+      object-end _ _ _ _ _ _ _ _ _ _ _ _ (c .before .before .before .before .before .before .loop .inv)
+          (c .before .before .before .before .before .before .before .before .before .pre .1) (omega arith) _ _ (c .before .before .before .first-twin .ensures)
+          _ (c .end-object .ensures),
+      object-lent _ _ _ _ _ _ _ _ _ _ _ _ (c .before .before .before .before .before .before .loop .inv) _ _
+          (c .before .before .before .first-twin .ensures),
+    ))
