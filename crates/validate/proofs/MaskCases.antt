@@ -27,9 +27,8 @@ use Rattle.checks.specs.Checks.{fieldAt}
 use Rattle.validate.specs.Asked.{asked, topAt, Masked, maskWith}
 use Rattle.checks.specs.Checks.{namelessly}
 use Rattle.names.proofs.ReadNames.{read-ends}
-use Rattle.validate.specs.declared.Named.{Named as Answer}
-use Rattle.validate.specs.Named.{namedAt, fieldIn, Kept}
-use Rattle.validate.proofs.NamedCases.{named-field}
+use Rattle.faults.specs.declared.Modes.{Modes}
+use Rattle.named.specs.Top.{topWithin, Checked, topWith}
 
 pub mask-long : (n : ℕ) (s : List ℕ) → lengthLimit < length s → (v : ℕ) → v ≡ stopValue TooLong → v ≡ mask n s
 unfolding mask
@@ -95,20 +94,36 @@ module _ (n : ℕ) (s : List ℕ) (short : length s ≤ lengthLimit) (x : Field)
 
 -- ---- the top field's check
 
-module _ (n : ℕ) (s : List ℕ) (g : Faults) (i₀ : g ≡ nothing) (b₂ : Bool) (i₂ : b₂ ≡ isAsked n formatMode) (l : ℕ) (i₁ : l ≡ depthLimit) where
-  pub top-nameless : isAsked n namesMode ≡ false → (x : Field) → x ≡ fieldAt Top (namelessly b₂) l g s → x ≡ topAt n s
-  top-nameless e x h = rw (i₀, i₁, i₂, ← e) at h
+-- names are not asked about
+pub top-nameless : (n : ℕ) (s : List ℕ) (g : Faults) → g ≡ nothing → (b₂ : Bool) → b₂ ≡ isAsked n formatMode → (l : ℕ) → l ≡ depthLimit
+    → isAsked n namesMode ≡ false → (x : Field) → x ≡ fieldAt Top (namelessly b₂) l g s → x ≡ topAt n s
+top-nameless n s g i₀ b₂ i₂ l i₁ e x h = rw (i₀, i₁, i₂, ← e) at h
 
-  pub top-named : (b₁ : Bool) → b₁ ≡ isAsked n namesMode → (y : Answer) → y ≡ namedAt Top (record { names = b₁; format = b₂ }) l g s → (x : Field) → x ≡ fieldIn y
-      → x ≡ topAt n s
-  top-named b₁ e y h x k = k ∙ (rw (i₀, i₁, i₂, e) at (named-field Top (record { names = b₁; format = b₂ }) g s l y h))
+-- they are
+pub top-named : (n : ℕ) (s : List ℕ) → length s ≤ lengthLimit → (m : Modes) → m ≡ asked n → (x : Field) → x ≡ topWithin m s → x ≡ topAt n s
+unfolding topWithin
+top-named n s short m e x h = rw (e, le-ltb lengthLimit (length s) short) at h
+
+pub asked-is : (n : ℕ) (b c : Bool) → b ≡ isAsked n namesMode → c ≡ isAsked n formatMode → _≡_ {A = Modes} (record { names = b; format = c }) (asked n)
+asked-is n b c e f = rw (e, f)
 
 pub not-asked : (n : ℕ) (o : Bool) → o ≡ isAsked n namesMode → o ≡ false → isAsked n namesMode ≡ false
 not-asked n o e h = sym e ∙ h
 
 -- ---- with a table
 
-pub cleared : (n : ℕ) (s t : List ℕ) (r : ℕ) → r ≡ mask n s → (t′ t″ : List ℕ) → Kept t t′ → t″ ≡ replicate (length t′) 0
-    → _≡_ {A = Masked} (record { answer = r; table = t″ }) (maskWith n s t)
+pub top-with : (n : ℕ) (s t : List ℕ) → length s ≤ lengthLimit → (m : Modes) → m ≡ asked n → (x : Field) (t′ : List ℕ)
+    → _≡_ {A = Checked} (record { answer = x; table = t′ }) (topWith m s t) → x ≡ topAt n s
+unfolding topWith
+top-with n s t short m e x t′ h = top-named n s short m e x (ap (λ z. z .answer) h)
+
+-- the table was cleared by the check, or by the call
+pub cleared-with : (n : ℕ) (s t : List ℕ) (r : ℕ) → r ≡ mask n s → (m : Modes) (x : Field) (t′ : List ℕ)
+    → _≡_ {A = Checked} (record { answer = x; table = t′ }) (topWith m s t) → _≡_ {A = Masked} (record { answer = r; table = t′ }) (maskWith n s t)
+unfolding maskWith topWith
+cleared-with n s t r e m x t′ h = let z : t′ ≡ replicate (length t) 0 = ap (λ z. z .table) h in rw (e, z)
+
+pub cleared : (n : ℕ) (s t : List ℕ) (r : ℕ) → r ≡ mask n s → (t′ : List ℕ) → t′ ≡ replicate (length t) 0
+    → _≡_ {A = Masked} (record { answer = r; table = t′ }) (maskWith n s t)
 unfolding maskWith
-cleared n s t r e t′ t″ l h = rw (e, h, l .is)
+cleared n s t r e t′ h = rw (e, h)

@@ -3,19 +3,16 @@ use Prim.Native.Nat.{ℕ}
 use mathlib.Core.List.{List}
 use lib.ListN.{length, replicate}
 use Rattle.faults.specs.declared.Modes.{Modes}
-use Rattle.format.specs.declared.Form.the-variants.{Top}
-use Rattle.format.specs.Limits.{depthLimit}
 use Rattle.format.specs.Mask.{isAsked, namesMode, formatMode, mask}
-use Rattle.faults.specs.Noted.{nothing}
 use Rattle.contents.specs.declared.Field.{Field}
-use Rattle.checks.specs.Checks.{fieldAt}
+use Rattle.named.specs.Top as named
 
 abbrev pub asked : ℕ → Modes
 asked n = record { names = isAsked n namesMode; format = isAsked n formatMode }
 
 -- the check of the top field
 abbrev pub topAt : ℕ → List ℕ → Field
-topAt n s = fieldAt Top (asked n) depthLimit nothing s
+topAt n s = named.topAt (asked n) s
 
 -- the mask, and zeros in the table
 pub record Masked : Type 0 where

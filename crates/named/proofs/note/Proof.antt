@@ -1,7 +1,7 @@
 use borrow.Author.Needs.{needs}
-use Rattle.validate.proofs.note.Statement.{statement}
-use Rattle.validate.proofs.note.Tie as tie
-use Rattle.validate.proofs.ObjectLaws.{note-none, note-some}
+use Rattle.named.proofs.note.Statement.{statement}
+use Rattle.named.proofs.note.Tie as tie
+use Rattle.named.proofs.ObjectLaws.{note-none, note-some}
 
 ruleset laws = (note-none, note-some, needs)
 

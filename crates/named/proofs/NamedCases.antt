@@ -30,9 +30,9 @@ use Rattle.contents.specs.declared.Contents.the-variants as C
 use Rattle.contents.specs.Contents.{closed}
 use Rattle.checks.specs.Checks.{fieldAt, contentsAt}
 use Rattle.checks.proofs.FieldCases.{fieldBy, field-view, field-deep, field-stop, field-leaf, field-fields, field-items, fields-in, items-in}
-use Rattle.validate.specs.declared.Named.{Named}
-use Rattle.validate.specs.declared.Named.the-variants as D
-use Rattle.validate.specs.Named.{nameIn, startIn, namedBy, namedAt, fieldIn, Kept}
+use Rattle.named.specs.declared.Named.{Named}
+use Rattle.named.specs.declared.Named.the-variants as D
+use Rattle.named.specs.Named.{nameIn, startIn, namedBy, namedAt, fieldIn, Kept}
 
 between-short : (s : List ℕ) (b e : ℕ) → b ≤ e → e ≤ length s → length s < 16777216 → length (between b e s) < 16777216
 between-short s b e l m k = omega (arith, length-take-le (e - b) (drop b s) (omega (arith, length-drop b s)))

@@ -1,7 +1,7 @@
 use borrow.Author.Needs.{needs}
-use Rattle.validate.proofs.close.Statement.{statement}
-use Rattle.validate.proofs.close.Tie as tie
-use Rattle.validate.proofs.NamedCases.{close-stop, close-read}
+use Rattle.named.proofs.close.Statement.{statement}
+use Rattle.named.proofs.close.Tie as tie
+use Rattle.named.proofs.NamedCases.{close-stop, close-read}
 
 ruleset laws = (close-stop, close-read, needs)
 

@@ -1,7 +1,7 @@
 use borrow.Author.Needs.{needs}
-use Rattle.validate.proofs.unnamed.Statement.{statement}
-use Rattle.validate.proofs.unnamed.Tie as tie
-use Rattle.validate.proofs.NamedCases.{unnamed-stop, unnamed-read}
+use Rattle.named.proofs.unnamed.Statement.{statement}
+use Rattle.named.proofs.unnamed.Tie as tie
+use Rattle.named.proofs.NamedCases.{unnamed-stop, unnamed-read}
 
 ruleset laws = (unnamed-stop, unnamed-read, needs)
 

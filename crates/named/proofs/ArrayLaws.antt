@@ -18,10 +18,10 @@ use Rattle.contents.specs.declared.Contents.the-variants as C
 use Rattle.contents.specs.Contents.{arrayEnd}
 use Rattle.checks.specs.Checks.{contentsAt}
 use Rattle.checks.proofs.LoopLaws.{Items, items-start, items-fault, items-step, items-left, items-end}
-use Rattle.validate.specs.declared.Named.{Named}
-use Rattle.validate.specs.declared.Named.the-variants as D
-use Rattle.validate.specs.Named.{namedAt, fieldIn, Kept}
-use Rattle.validate.proofs.NamedCases.{named-field}
+use Rattle.named.specs.declared.Named.{Named}
+use Rattle.named.specs.declared.Named.the-variants as D
+use Rattle.named.specs.Named.{namedAt, fieldIn, Kept}
+use Rattle.named.proofs.NamedCases.{named-field}
 
 pub record Array (f : Form) (c : ℕ) (m : Modes) (d : ℕ) (g : Faults) (s t₀ t : List ℕ) (at room : ℕ) (h : Faults) (u : ℕ) : Type 0 where
   pub items : Items f c m d g s at room h u

@@ -37,10 +37,10 @@ use Rattle.contents.specs.declared.Contents.the-variants as C
 use Rattle.contents.specs.Contents.{objectEnd}
 use Rattle.checks.specs.Checks.{contentsAt}
 use Rattle.checks.proofs.LoopLaws.{Fields, fields-start, fields-out, fields-fault, fields-step, fields-end}
-use Rattle.validate.specs.declared.Named.{Named}
-use Rattle.validate.specs.declared.Named.the-variants as D
-use Rattle.validate.specs.Named.{namedAt, fieldIn, notedAt, Kept}
-use Rattle.validate.proofs.NamedCases.{named-field, named-inside, named-place}
+use Rattle.named.specs.declared.Named.{Named}
+use Rattle.named.specs.declared.Named.the-variants as D
+use Rattle.named.specs.Named.{namedAt, fieldIn, notedAt, Kept}
+use Rattle.named.proofs.NamedCases.{named-field, named-inside, named-place}
 
 -- ---- one name more
 

@@ -17,8 +17,8 @@ use Rattle.notes.specs.Notes.{Noting, noting, added}
 use Rattle.contents.specs.declared.Field.{Field}
 use Rattle.contents.specs.declared.Field.the-variants as F
 use Rattle.checks.specs.Checks.{fieldAt}
-use Rattle.validate.specs.declared.Named.{Named}
-use Rattle.validate.specs.declared.Named.the-variants as D
+use Rattle.named.specs.declared.Named.{Named}
+use Rattle.named.specs.declared.Named.the-variants as D
 
 -- where the name of what was met begins, and where its payload starts
 abbrev pub nameIn : Met → ℕ

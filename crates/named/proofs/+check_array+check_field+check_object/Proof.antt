@@ -1,15 +1,15 @@
 use Prim.Native.Nat.{ℕ, _<_}
 use borrow.Fn.Kinds.{In}
 use borrow.Fn.PlainCycle.{Measures, is, falls, and}
-use Rattle.validate.proofs.check_array.Reads as check-array
-use Rattle.validate.proofs.check_array.Kinds as check-array-kinds
-use Rattle.validate.proofs.+check_array+check_field+check_object.Lts-check_array as check-array-lts
-use Rattle.validate.proofs.check_field.Reads as check-field
-use Rattle.validate.proofs.check_field.Kinds as check-field-kinds
-use Rattle.validate.proofs.+check_array+check_field+check_object.Lts-check_field as check-field-lts
-use Rattle.validate.proofs.check_object.Reads as check-object
-use Rattle.validate.proofs.check_object.Kinds as check-object-kinds
-use Rattle.validate.proofs.+check_array+check_field+check_object.Lts-check_object as check-object-lts
+use Rattle.named.proofs.check_array.Reads as check-array
+use Rattle.named.proofs.check_array.Kinds as check-array-kinds
+use Rattle.named.proofs.+check_array+check_field+check_object.Lts-check_array as check-array-lts
+use Rattle.named.proofs.check_field.Reads as check-field
+use Rattle.named.proofs.check_field.Kinds as check-field-kinds
+use Rattle.named.proofs.+check_array+check_field+check_object.Lts-check_field as check-field-lts
+use Rattle.named.proofs.check_object.Reads as check-object
+use Rattle.named.proofs.check_object.Kinds as check-object-kinds
+use Rattle.named.proofs.+check_array+check_field+check_object.Lts-check_object as check-object-lts
 use Rattle.contents.proofs.check_sizes.Reads as check-sizes-reads
 use Rattle.contents.proofs.end_array.Reads as end-array-reads
 use Rattle.contents.proofs.end_object.Reads as end-object-reads
@@ -18,10 +18,10 @@ use Rattle.head.proofs.meet_of.Reads as meet-of-reads
 use Rattle.notes.proofs.first_twin.Reads as first-twin-reads
 use Rattle.notes.proofs.held.Reads as held-reads
 use Rattle.run.proofs.add.Reads as add-reads
-use Rattle.validate.proofs.close.Reads as close-reads
-use Rattle.validate.proofs.note.Reads as note-reads
-use Rattle.validate.proofs.+check_array+check_field+check_object.{statement}
-use Rattle.validate.proofs.+check_array+check_field+check_object.Tie.{close}
+use Rattle.named.proofs.close.Reads as close-reads
+use Rattle.named.proofs.note.Reads as note-reads
+use Rattle.named.proofs.+check_array+check_field+check_object.{statement}
+use Rattle.named.proofs.+check_array+check_field+check_object.Tie.{close}
 use borrow.Author.Needs.{needs}
 use native.Mathlib.Omega.{arith}
 use Prim.Native.Nat.{_+_, _*_, _-_}
@@ -29,12 +29,12 @@ use denote.Ref.{now}
 use mathlib.Core.Path.{refl}
 use Rattle.checks.proofs.FieldCases.{fields-in, items-in}
 use Rattle.checks.proofs.SizedItems.{sized-items}
-use Rattle.validate.proofs.NamedCases.{fields-short, items-short, rest-short, kept}
-use Rattle.validate.proofs.NamedCases.{named-deep, named-stop, named-leaf, named-fields, named-items}
-use Rattle.validate.proofs.ObjectLaws.{Object, object-start, object-kept, object-out, object-held, back-kept}
-use Rattle.validate.proofs.ObjectLaws.{object-fault, object-inside, object-name, object-starts, object-step, object-end, object-lent}
-use Rattle.validate.proofs.ArrayLaws.{Array, array-start, array-kept, array-back, array-at}
-use Rattle.validate.proofs.ArrayLaws.{array-fault, array-inside, array-step, array-left, array-end}
+use Rattle.named.proofs.NamedCases.{fields-short, items-short, rest-short, kept}
+use Rattle.named.proofs.NamedCases.{named-deep, named-stop, named-leaf, named-fields, named-items}
+use Rattle.named.proofs.ObjectLaws.{Object, object-start, object-kept, object-out, object-held, back-kept}
+use Rattle.named.proofs.ObjectLaws.{object-fault, object-inside, object-name, object-starts, object-step, object-end, object-lent}
+use Rattle.named.proofs.ArrayLaws.{Array, array-start, array-kept, array-back, array-at}
+use Rattle.named.proofs.ArrayLaws.{array-fault, array-inside, array-step, array-left, array-end}
 
 ruleset array-laws = (kept, sized-items, rest-short, array-start, array-kept, array-back, array-at, array-fault, array-step, array-left, array-end, needs)
 
