@@ -1,8 +1,11 @@
 //! growth: how the time for objects full of names grows with their size. First the library, validate strict and write, on objects
-//! of 16, 32 and 64 KiB; then the search as it is simulated in `simulation.rs`, on contents of 64 KiB, 1 MiB and 16 MiB, with a
-//! table for all names and with one of 20,480 numbers; then the worst 64 KiB that are known for it. The exit status is 1 if
-//! an answer is not the expected one.
+//! of 16, 32 and 64 KiB; then the library on the worst 64 KiB that are known for it, beside a manifest of 64 KiB; then the search
+//! for equal names as it is simulated in `simulation.rs`, on contents of 64 KiB, 1 MiB and 16 MiB, with a table for all names and
+//! with one of 22,016 numbers, as the validator has it. The exit status is 1 if an answer is not the expected one.
 
+#[path = "../inputs.rs"]
+#[allow(dead_code)]
+mod inputs;
 mod objects;
 mod simulation;
 
@@ -14,11 +17,13 @@ use ajuqvane_tests::independent::number::push_varuint;
 use ajuqvane_tests::library;
 
 use objects::{contents, hostile, Contents, Names};
-use simulation::{has_twins, in_passes, in_ranges, As8, AsPlanned, Marked};
+use simulation::has_twins;
 
-/// How many numbers a table has that is not made for the names.
-const TABLE: usize = 20_480;
+/// How many numbers the validator's own table has.
+const TABLE: usize = 22_016;
 const KIB: usize = 1_024;
+/// How many fields a manifest has.
+const MANIFEST_FIELDS: usize = 5_728;
 /// A measurement repeats what it measures until it took so long, and takes the median.
 const LONG: Duration = Duration::from_millis(60);
 
@@ -75,7 +80,7 @@ fn title(what: &str, cells: &[&str]) {
 }
 
 fn main() -> ExitCode {
-    let sound = [of_library(), of_simulation(), of_worst()];
+    let sound = [of_library(), of_worst(), of_simulation()];
     ExitCode::from(u8::from(sound.contains(&false)))
 }
 
@@ -106,23 +111,9 @@ fn of_library() -> bool {
     sound
 }
 
-/// The ways that split a table for all names, on contents with so many type bytes for each field.
-fn split_cells(row: &mut Row, contents: &Contents, types: usize) {
-    let part = &contents.bytes;
-    let mut table = vec![0; contents.names];
-    for search in [has_twins::<AsPlanned>, has_twins::<As8>, has_twins::<Marked>] {
-        let met = search(part, types, &mut table);
-        row.cell(!met, time(|| search(part, types, &mut table)), "");
-    }
-}
-
-const SPLIT: [&str; 3] = ["split as planned, 16", "8, range of keys once", "8, once, marks anew"];
-
 fn of_simulation() -> bool {
-    let more = ["sorted in one pass", "passes, 20,480 numbers", "ranges, 20,480 numbers"];
-    title("simulated", &[SPLIT, more].concat());
+    title("simulated", &["a table for all names", "a table of 22,016 numbers"]);
     let mut sound = true;
-    let mut short = [0; TABLE];
     for names in [Names::Letters(3), Names::Letters(8), Names::SameEnd, Names::SameMarks(6)] {
         for kib in [64, KIB, 16 * KIB] {
             let contents = contents(names, kib * KIB);
@@ -131,13 +122,12 @@ fn of_simulation() -> bool {
                 continue;
             }
             let mut row = Row::new(&names.to_string(), contents.bytes.len(), contents.names);
-            split_cells(&mut row, &contents, 1);
             let part = &contents.bytes;
-            let mut long = vec![0; 2 * contents.names];
-            row.cell(!in_passes(part, 1, &mut long).0, time(|| in_passes(part, 1, &mut long)), "");
-            for search in [in_passes, in_ranges::<As8>] {
-                let (met, passes) = search(part, 1, &mut short);
-                row.cell(!met, time(|| search(part, 1, &mut short)), &format!(" in {passes}"));
+            for length in [contents.names, TABLE] {
+                let mut table = vec![0; length];
+                let (met, passes) = has_twins(part, 1, &mut table);
+                let more = if passes == 0 { String::new() } else { format!(" in {passes}") };
+                row.cell(!met, time(|| has_twins(part, 1, &mut table)), &more);
             }
             sound &= row.end();
         }
@@ -145,13 +135,32 @@ fn of_simulation() -> bool {
     sound
 }
 
-/// The worst uniform objects of 64 KiB that are known.
+/// A uniform object of nulls.
+fn of_nulls(contents: &Contents) -> Vec<u8> {
+    let mut payload = vec![0x03];
+    push_varuint(&mut payload, 1 + contents.bytes.len() as u64);
+    payload.push(0x01);
+    payload.extend(&contents.bytes);
+    payload
+}
+
+/// The worst objects of 64 KiB that are known; the last cell is how many times as long they take for each byte as a manifest.
 fn of_worst() -> bool {
-    title("simulated, the worst 64 KiB", &SPLIT);
-    let mut sound = true;
-    for (label, contents) in hostile(64 * KIB) {
-        let mut row = Row::new(&label, contents.bytes.len(), contents.names);
-        split_cells(&mut row, &contents, 0);
+    let manifest = inputs::manifest();
+    let Some(_) = library::validate(7, &manifest) else { return true };
+    let usual = time(|| library::validate(7, &manifest)) / manifest.len() as f64;
+    title("the library, the worst 64 KiB", &["validate strict"]);
+    let mut row = Row::new("a manifest", manifest.len(), MANIFEST_FIELDS);
+    row.cell(true, usual * manifest.len() as f64, "");
+    let mut sound = row.end();
+    for (label, contents) in hostile(64 * KIB - 8) {
+        let payload = of_nulls(&contents);
+        let mut row = Row::new(&label, payload.len(), contents.names);
+        let mask = library::validate(7, &payload);
+        let taken = time(|| library::validate(7, &payload));
+        let times = format!(", {:.1} times", taken / payload.len() as f64 / usual);
+        // At most an empty name, and names that are no text.
+        row.cell(mask.is_some_and(|mask| mask & !(32 | 512) == 0), taken, &times);
         sound &= row.end();
     }
     sound

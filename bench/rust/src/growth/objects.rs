@@ -90,6 +90,17 @@ pub fn contents(names: Names, most: usize) -> Contents {
 /// Contents of uniform objects that take the search long, each as large as fits in so many bytes.
 pub fn hostile(most: usize) -> Vec<(String, Contents)> {
     let mut hostile = Vec::new();
+    // The most names that all differ.
+    let short = (0..=2)
+        .flat_map(|length| (0..1_usize << (8 * length)).map(move |number| number.to_be_bytes()[8 - length..].to_vec()));
+    hostile.push(("up to 2 bytes, any".to_string(), uniform(short, most)));
+    let pairs = (0..1 << 16).map(|number: usize| number.wrapping_mul(40_503).to_be_bytes()[6..].to_vec());
+    hostile.push(("2 bytes, any".to_string(), uniform(pairs, most)));
+    let ascii =
+        (0..1 << 21).map(|number: usize| [number >> 14, number >> 7, number].map(|byte| byte as u8 & 127).to_vec());
+    hostile.push(("3 bytes, ASCII".to_string(), uniform(ascii.step_by(97), most)));
+    let marks = (0..1 << 16).map(|number| Names::SameMarks(4).name(number * 40_503 % 65_536));
+    hostile.push(("equal marks, 4 bytes".to_string(), uniform(marks, most)));
     for length in [3, 4, 6, 8, 32] {
         // All marks are equal, and each split of the first bytes takes off one name.
         let one_by_one = (0..length).flat_map(|at| (4..8).map(move |bit| (at, 0x01 | 1 << bit))).map(|(at, byte)| {
@@ -115,7 +126,7 @@ pub fn hostile(most: usize) -> Vec<(String, Contents)> {
         });
         hostile.push((format!("equal ends, one by one, {length} bytes"), uniform(one_by_one.chain(spread), most)));
     }
-    for (group, length) in [(8, 250), (16, 250), (16, 20)] {
+    for (group, length) in [(8, 120), (16, 120), (16, 20)] {
         // Groups of equal keys that differ far behind only.
         let names = (0..1 << 16).map(|number: usize| {
             let mut name = vec![0x07; length];

@@ -1,5 +1,6 @@
-//! The search for equal names in one object as it is planned for objects of any size, simulated in plain Rust: a name is one
-//! number, an entry, and the entries stand in a table. Where they all fit, the table is split until few are left; else the names
+//! The search for equal names in one object as the library has it, simulated in plain Rust for objects of any size: a name is one
+//! number, an entry, and the entries stand in a table. If the table holds them all, they are divided by one digit of their names
+//! after another, the key and then the bytes, until few are left; else those that it holds are divided first, and then the names
 //! are taken in passes. What is asked of both is only whether two names are equal.
 
 /// An entry: marks of the name's last bytes, its length and where it begins. What stands above the beginning is its key.
@@ -7,8 +8,8 @@ const BEGIN_BITS: u32 = 24;
 const LENGTH_BITS: u32 = 24;
 const BEGIN_MASK: u64 = (1 << BEGIN_BITS) - 1;
 const LENGTH_MASK: u64 = (1 << LENGTH_BITS) - 1;
-/// Above every key.
-const KEYS: u64 = 1 << (64 - BEGIN_BITS);
+/// So many entries or fewer are compared in pairs.
+const FEW: usize = 4;
 
 /// The entry of the name from one place to another. The marks are the low four bits of each of its last four bytes.
 #[inline(always)]
@@ -48,205 +49,82 @@ fn walk(part: &[u8], types: usize, mut each: impl FnMut(u64)) {
     }
 }
 
-/// How the splitting goes.
-pub trait Way {
-    /// So many entries or fewer are compared in pairs.
-    const FEW: usize;
-    /// The least and the greatest key are looked for once, before anything is split; and of one byte before it is split by, not
-    /// at each split. Pairs are compared from the byte on that the splitting came to.
-    const ONCE: bool;
-    /// Where all keys of a group are equal, two bytes of each name become its marks, and it is split by these; not by the bytes
-    /// where they stand.
-    const MARKED: bool;
-}
-
-/// As it is planned.
-pub struct AsPlanned;
-
-impl Way for AsPlanned {
-    const FEW: usize = 16;
-    const ONCE: bool = false;
-    const MARKED: bool = false;
-}
-
-/// Two changes that make it faster.
-pub struct As8;
-
-impl Way for As8 {
-    const FEW: usize = 8;
-    const ONCE: bool = true;
-    const MARKED: bool = false;
-}
-
-/// A third.
-pub struct Marked;
-
-impl Way for Marked {
-    const FEW: usize = 8;
-    const ONCE: bool = true;
-    const MARKED: bool = true;
-}
-
 #[inline(always)]
-fn are_equal(part: &[u8], x: u64, y: u64, from: usize) -> bool {
-    let n = length(x);
-    let (a, b) = (&part[begin(x) + from..begin(x) + n], &part[begin(y) + from..begin(y) + n]);
-    let mut i = 0;
-    while i < a.len() {
-        if a[i] != b[i] {
-            return false;
-        }
-        i += 1;
+fn digit(part: &[u8], x: u64, at: usize) -> u64 {
+    if at == 0 {
+        key(x)
+    } else {
+        u64::from(part[begin(x) + at - 1])
     }
-    true
 }
 
-/// Whether two of a few entries have the same name. Those of one key have the same bytes before a place.
-#[inline(always)]
-fn in_pairs(part: &[u8], entries: &[u64], from: usize) -> bool {
-    for i in 1..entries.len() {
-        let x = entries[i];
-        for &y in &entries[..i] {
-            if key(x) == key(y) && are_equal(part, x, y, from) {
-                return true;
-            }
-        }
-    }
-    false
+/// Whether two of a few entries have the same name.
+fn in_pairs(part: &[u8], entries: &[u64]) -> bool {
+    (1..entries.len()).any(|i| entries[..i].iter().any(|&y| compare(part, entries[i], y).is_eq()))
 }
 
-/// Puts those with a number up to a bound in front, and says how many they are. No branch goes by an entry.
+/// Puts those with a digit up to a bound in front, or those above it, and says how many they are. No branch goes by an entry.
 #[inline(always)]
-fn split(entries: &mut [u64], bound: u64, number: impl Fn(u64) -> u64) -> usize {
+fn split(part: &[u8], entries: &mut [u64], at: usize, bound: u64, lows: bool) -> usize {
     let mut count = 0;
     for i in 0..entries.len() {
         entries.swap(i, count);
-        count += usize::from(number(entries[count]) <= bound);
+        count += usize::from((digit(part, entries[count], at) <= bound) == lows);
     }
     count
 }
 
-/// The least number and the greatest.
-#[inline(always)]
-fn range(entries: &[u64], number: impl Fn(u64) -> u64) -> (u64, u64) {
-    entries.iter().map(|x| number(*x)).fold((u64::MAX, 0), |(least, greatest), n| (least.min(n), greatest.max(n)))
-}
-
-/// Whether two entries have the same name. Their keys are from one number to another.
-fn by_keys<W: Way>(part: &[u8], entries: &mut [u64], low: u64, high: u64) -> bool {
-    if entries.len() <= W::FEW {
-        return in_pairs(part, entries, 0);
-    }
-    if low == high {
-        let n = length(entries[0]);
-        return match (W::MARKED, W::ONCE) {
-            (true, _) => by_marks::<W>(part, entries, n, 0),
-            (false, true) => by_bytes_once::<W>(part, entries, n, 0),
-            (false, false) => by_bytes::<W>(part, entries, n, 0),
-        };
-    }
-    let middle = low + (high - low) / 2;
-    let count = split(entries, middle, key);
-    let (lower, upper) = entries.split_at_mut(count);
-    by_keys::<W>(part, lower, low, middle) || by_keys::<W>(part, upper, middle + 1, high)
-}
-
-/// Whether two entries of one key have the same name. Their bytes before one place are equal.
-fn by_bytes<W: Way>(part: &[u8], mut entries: &mut [u64], length: usize, mut j: usize) -> bool {
+/// Whether two entries have the same name. Their names are alike up to a digit.
+fn are_divided(part: &[u8], mut entries: &mut [u64], mut at: usize) -> bool {
     loop {
-        if entries.len() <= W::FEW {
-            return in_pairs(part, entries, 0);
+        if entries.len() <= FEW {
+            return in_pairs(part, entries);
         }
-        let (mut least, mut greatest) = (0, 0);
-        while j < length {
-            (least, greatest) = range(entries, |x| u64::from(part[begin(x) + j]));
-            if least != greatest {
-                break;
-            }
-            j += 1;
-        }
-        if j == length {
+        if length(entries[0]) < at {
             return true;
         }
-        let middle = least + (greatest - least) / 2;
-        let count = split(entries, middle, |x| u64::from(part[begin(x) + j]));
-        let (lower, upper) = entries.split_at_mut(count);
-        let (smaller, larger) = if lower.len() < upper.len() { (lower, upper) } else { (upper, lower) };
-        if by_bytes::<W>(part, smaller, length, j) {
+        let (mut low, mut high) = (u64::MAX, 0);
+        for x in entries.iter() {
+            let digit = digit(part, *x, at);
+            (low, high) = (low.min(digit), high.max(digit));
+        }
+        if low == high {
+            at += 1;
+            continue;
+        }
+        let middle = low + (high - low) / 2;
+        let mut count = split(part, entries, at, middle, true);
+        if count < entries.len() - count {
+            count = split(part, entries, at, middle, false);
+        }
+        let (larger, smaller) = entries.split_at_mut(count);
+        if are_divided(part, smaller, at) {
             return true;
         }
         entries = larger;
     }
 }
 
-/// The same, with the least byte and the greatest looked for once.
-fn by_bytes_once<W: Way>(part: &[u8], entries: &mut [u64], length: usize, from: usize) -> bool {
-    if entries.len() <= W::FEW {
-        return in_pairs(part, entries, from);
-    }
-    for j in from..length {
-        let (least, greatest) = range(entries, |x| u64::from(part[begin(x) + j]));
-        if least != greatest {
-            return by_byte::<W>(part, entries, length, j, least, greatest);
-        }
-    }
-    true
-}
-
-/// The byte at one place is from one number to another.
-fn by_byte<W: Way>(part: &[u8], entries: &mut [u64], length: usize, j: usize, low: u64, high: u64) -> bool {
-    if entries.len() <= W::FEW {
-        return in_pairs(part, entries, j);
-    }
-    if low == high {
-        return by_bytes_once::<W>(part, entries, length, j + 1);
-    }
-    let middle = low + (high - low) / 2;
-    let count = split(entries, middle, |x| u64::from(part[begin(x) + j]));
-    let (lower, upper) = entries.split_at_mut(count);
-    by_byte::<W>(part, lower, length, j, low, middle) || by_byte::<W>(part, upper, length, j, middle + 1, high)
-}
-
-const MARKS: u32 = BEGIN_BITS + LENGTH_BITS;
-
-/// The same, with the two bytes from a place on as the marks; 0 where the name has ended.
-fn by_marks<W: Way>(part: &[u8], entries: &mut [u64], length: usize, j: usize) -> bool {
-    if length <= j {
-        return true;
-    }
-    for x in entries.iter_mut() {
-        let name = &part[begin(*x)..begin(*x) + length];
-        let marks = u64::from(name[j]) << 8 | name.get(j + 1).map_or(0, |byte| u64::from(*byte));
-        *x = marks << MARKS | *x & ((1 << MARKS) - 1);
-    }
-    let (low, high) = range(entries, |x| x >> MARKS);
-    by_mark::<W>(part, entries, length, j, low, high)
-}
-
-/// The marks are from one number to another.
-fn by_mark<W: Way>(part: &[u8], entries: &mut [u64], length: usize, j: usize, low: u64, high: u64) -> bool {
-    if entries.len() <= W::FEW {
-        return in_pairs(part, entries, j);
-    }
-    if low == high {
-        return by_marks::<W>(part, entries, length, j + 2);
-    }
-    let middle = low + (high - low) / 2;
-    let count = split(entries, middle, |x| x >> MARKS);
-    let (lower, upper) = entries.split_at_mut(count);
-    by_mark::<W>(part, lower, length, j, low, middle) || by_mark::<W>(part, upper, length, j, middle + 1, high)
-}
-
-/// Whether two names of an object's contents are equal, with room for an entry of each.
-pub fn has_twins<W: Way>(part: &[u8], types: usize, table: &mut [u64]) -> bool {
+/// Whether two names of an object's contents are equal, and in how many passes that was found; none if the table holds them all.
+pub fn has_twins(part: &[u8], types: usize, table: &mut [u64]) -> (bool, u32) {
     let mut count = 0;
+    let mut more = false;
     walk(part, types, |x| {
-        table[count] = x;
-        count += 1;
+        if count < table.len() {
+            table[count] = x;
+            count += 1;
+        } else {
+            more = true;
+        }
     });
-    let entries = &mut table[..count];
-    let (low, high) = if W::ONCE { range(entries, key) } else { (0, KEYS - 1) };
-    by_keys::<W>(part, entries, low, high)
+    if are_divided(part, &mut table[..count], 0) {
+        return (true, 0);
+    }
+    if more {
+        in_passes(part, types, table)
+    } else {
+        (false, 0)
+    }
 }
 
 /// The order of two names: by their keys, then by their bytes.
@@ -296,14 +174,9 @@ fn arrange(part: &[u8], table: &mut [u64], count: usize) -> bool {
     entries.windows(2).any(|pair| compare(part, pair[0], pair[1]).is_eq())
 }
 
-/// The same as `has_twins` in a table of any length from 4 up, and how many passes it took. A pass takes the least names above
-/// those of the passes before, as many as half of the table holds; if it is full, it is sorted and its lower half is kept.
-pub fn in_passes(part: &[u8], types: usize, table: &mut [u64]) -> (bool, u32) {
-    in_passes_of(part, types, table, |_| true)
-}
-
-/// The same of those names only whose entries are wanted.
-fn in_passes_of(part: &[u8], types: usize, table: &mut [u64], wanted: impl Fn(u64) -> bool) -> (bool, u32) {
+/// The same in passes. A pass takes the least names above those of the passes before, as many as half of the table holds; if it is
+/// full, it is sorted and its lower half is kept.
+fn in_passes(part: &[u8], types: usize, table: &mut [u64]) -> (bool, u32) {
     let full = table.len() / 2;
     let mut low = None;
     let mut passes = 0;
@@ -314,7 +187,6 @@ fn in_passes_of(part: &[u8], types: usize, table: &mut [u64], wanted: impl Fn(u6
         let mut met = false;
         walk(part, types, |x| {
             if met
-                || !wanted(x)
                 || low.is_some_and(|low| compare(part, x, low).is_le())
                 || high.is_some_and(|high| compare(part, x, high).is_gt())
             {
@@ -341,48 +213,6 @@ fn in_passes_of(part: &[u8], types: usize, table: &mut [u64], wanted: impl Fn(u6
     }
 }
 
-/// The same by ranges of keys, with the whole table for entries and nothing sorted. A pass takes all names whose keys are from
-/// one number to another; if the table is full, the range is halved and the upper half goes. A key that more names have than
-/// the table holds is searched by passes as above.
-pub fn in_ranges<W: Way>(part: &[u8], types: usize, table: &mut [u64]) -> (bool, u32) {
-    let mut low = 0;
-    let mut passes = 0;
-    loop {
-        passes += 1;
-        let mut high = KEYS - 1;
-        let mut count = 0;
-        let mut all = true;
-        walk(part, types, |x| {
-            while low < high && count == table.len() {
-                high = low + (high - low) / 2;
-                count = split(table, high, key);
-            }
-            if key(x) < low || high < key(x) {
-                return;
-            }
-            if count < table.len() {
-                table[count] = x;
-                count += 1;
-            } else {
-                all = false;
-            }
-        });
-        if !all {
-            let (met, more) = in_passes_of(part, types, table, |x| key(x) == low);
-            passes += more;
-            if met {
-                return (true, passes);
-            }
-        } else if by_keys::<W>(part, &mut table[..count], low, high) {
-            return (true, passes);
-        }
-        if high == KEYS - 1 {
-            return (false, passes);
-        }
-        low = high + 1;
-    }
-}
-
 #[cfg(test)]
 mod tests {
     use std::collections::HashSet;
@@ -405,15 +235,11 @@ mod tests {
             met[usize::from(twins)] += 1;
             let part: Vec<u8> =
                 fields.iter().flat_map(|(name, _)| [vec![name.len() as u8], name.clone()].concat()).collect();
-            let mut table = vec![0; 2 * fields.len() + 4];
-            assert_eq!(has_twins::<AsPlanned>(&part, 0, &mut table), twins, "{part:02x?}");
-            assert_eq!(has_twins::<As8>(&part, 0, &mut table), twins, "{part:02x?}");
-            assert_eq!(has_twins::<Marked>(&part, 0, &mut table), twins, "{part:02x?}");
-            for length in [4, 5, 9, 64, 2 * fields.len() + 4] {
+            let mut table = vec![0; fields.len() + 4];
+            for length in [4, 5, 9, 64, fields.len() + 4] {
                 if length * 100 > fields.len() {
-                    let table = &mut table[..length.min(2 * fields.len() + 4)];
-                    assert_eq!(in_passes(&part, 0, table).0, twins, "{part:02x?}");
-                    assert_eq!(in_ranges::<AsPlanned>(&part, 0, table).0, twins, "{part:02x?}");
+                    let length = length.min(table.len());
+                    assert_eq!(has_twins(&part, 0, &mut table[..length]).0, twins, "{part:02x?}");
                 }
             }
         }

@@ -460,8 +460,8 @@ pub fn damage_payload(random: &mut Random, payload: &mut Vec<u8>) {
     }
 }
 
-/// Damages a write list: a frame of a fault of its own at any place, a frame that stands twice, a frame that goes, a close more
-/// or a close less, a cut. The frames before that are known afterwards.
+/// Damages a write list: a frame of a fault of its own at any place, a frame that stands twice, or a name that does so before
+/// another fault or behind it, a frame that goes, a close more or a close less, a cut. The frames before that are known afterwards.
 pub fn damage_list(random: &mut Random, list: &mut List) {
     let index = random.below(list.frames.len() + 1);
     let frame = |index: usize| {
@@ -470,7 +470,7 @@ pub fn damage_list(random: &mut Random, list: &mut List) {
     };
     let at = frame(index).start;
     let mut instead = at..at;
-    let new: Vec<u8> = match random.below(16) {
+    let new: Vec<u8> = match random.below(18) {
         0 => vec![0x15],
         1 => vec![UNIFORM_OBJECT, 1, b'~'],
         2 => vec![NULL, 0],
@@ -495,6 +495,19 @@ pub fn damage_list(random: &mut Random, list: &mut List) {
             let at = random.below(list.bytes.len());
             instead = at..at + 1;
             vec![random.byte()]
+        }
+        // A name again, with its length written long, which is refused for that; or before a payload that is refused.
+        15 | 16 => {
+            let again = &list.bytes[frame(random.below(list.frames.len()))];
+            let long = random.below(2) == 0;
+            match again {
+                [kind, length, rest @ ..] if *length < 0x80 && long => [&[*kind, 0x80, *length], rest].concat(),
+                [_, length, rest @ ..] if usize::from(*length) <= rest.len() => {
+                    let name = &rest[..usize::from(*length)];
+                    [&[INTEGER_POSITIVE, *length], name, &[0x80, 5]].concat()
+                }
+                _ => again.to_vec(),
+            }
         }
         // As many objects within one another as are refused.
         _ => [OBJECT, 1, b'~'].repeat(DEPTH_LIMIT as usize),
