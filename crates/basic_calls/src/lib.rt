@@ -1,4 +1,4 @@
-// The calls on parts of a payload and on floats, in numbers. A truth is answered as 1 or 0.
+// The calls on parts of a payload and on floats, in numbers. What is asked is answered as 1 if it is so, and as 0 if not.
 use replies::number_of;
 ghost use mathlib.Core.Path.{_≡_};
 ghost use Rattle.text.specs.Equal.{equal};
@@ -7,14 +7,15 @@ ghost use Rattle.float.specs.Rule.{holds};
 ghost use Rattle.replies.specs.Number.{truth, afterwards};
 ghost use Rattle.replies.specs.Reply.{varuint};
 
-// 0: a whole VarUInt stands at the front, and `answer` starts with its value, the bytes it takes, and 1 if it is minimal. 1: it is cut off.
+// 0: a whole VarUInt stands at the front, and `answer` starts with its value, the bytes it takes, and 1 if it is minimal. 1: it is cut off. 12: fewer than three
+// numbers are lent. After 1 and 12 they are as before.
 pub fn varuint(part: &[u8], answer: &mut [u64]) -> u32
     ensures { λ r. ⌜ afterwards r (now (answer .exit)) ≡ varuint (now (part .entry)) (now (answer .entry)) ⌝ }
 {
     replies::varuint(number::read(part), answer)
 }
 
-// The part is text.
+// The part is UTF-8.
 pub fn is_text(part: &[u8]) -> u32
     ensures { λ r. ⌜ r ≡ truth (isText (now (part .entry))) ⌝ }
 {

@@ -1,4 +1,4 @@
--- The check of a payload's top field, whatever is asked about names; and what a lent table holds then.
+-- The check of a payload's top field, with the modes asked; and what a lent table holds then.
 use Prim.Native.Nat.{ℕ}
 use mathlib.Core.Bool.{cond}
 use mathlib.Core.List.{List}
@@ -13,6 +13,7 @@ use Rattle.contents.specs.declared.Field.{Field}
 use Rattle.contents.specs.declared.Field.the-variants as F
 use Rattle.checks.specs.Checks.{fieldAt}
 
+-- of a payload within the limit
 abbrev pub topAt : Modes → List ℕ → Field
 topAt m s = fieldAt Top m depthLimit nothing s
 
@@ -20,10 +21,11 @@ topAt m s = fieldAt Top m depthLimit nothing s
 unfoldable pub topWithin : Modes → List ℕ → Field
 topWithin m s = cond (ltb lengthLimit (length s)) (F.Stop TooLong) (topAt m s)
 
--- the answer, and zeros in the table
+-- the answer, and the table
 pub record Checked : Type 0 where
   pub answer : Field
   pub table : List ℕ
 
+-- the table holds zeros
 unfoldable pub topWith : Modes → List ℕ → List ℕ → Checked
 topWith m s t = record { answer = topWithin m s; table = replicate (length t) 0 }

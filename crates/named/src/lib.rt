@@ -264,7 +264,7 @@ fn top(payload: &[u8], modes: Modes, table: &mut [u64]) -> Field
 }
 
 // The check of a payload's top field, in a table of its own. A longer payload is given a larger one. The largest holds all names of a payload within the
-// limit, if they all differ and no objects around take some of it: it has room for at most 21,931 such names, most of them of two bytes.
+// limit that differ from one another: there are at most 21,929 (behind five bytes, one of no byte, 256 of one, the others of two, a length before each).
 pub fn check(payload: &[u8], modes: Modes) -> Field
     ensures { λ r. ⌜ r ≡ topWithin modes (now (payload .entry)) ⌝ }
 {
@@ -288,9 +288,9 @@ pub fn check(payload: &[u8], modes: Modes) -> Field
     top(payload, modes, &mut table)
 }
 
-// The same with a table that is lent, of any length; it holds zeros afterwards. An object's names are looked at once if they are few or ascend. Else they are
-// looked at once more, if the table has a number for each of them behind the notes of the objects around it (16 for each at most); with a shorter table
-// once for each part of them that it holds.
+// The same with a table that is lent, of any length; it holds zeros afterwards. The names of an object are looked at once, if there are at most 16 of them or
+// they ascend. Else they are looked at once more, if the table has a number for each of them behind the notes of the objects around it, which take up to 16 each;
+// with a shorter table, again for each part of them that it holds, and with next to none, for each part that 64 numbers hold.
 pub fn check_with(payload: &[u8], modes: Modes, table: &mut [u64]) -> Field
     ensures { λ r. ⌜ record { answer = r; table = now (table .exit) } ≡ topWith modes (now (payload .entry)) (now (table .entry)) ⌝ }
 {

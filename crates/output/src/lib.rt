@@ -37,7 +37,7 @@ pub fn copy(list: &[u8], from: usize, end: usize, out: &mut [u8], to: usize)
     fill(list, from, end, out, to);
 }
 
-// The eight bytes from a position on, as a number; 0 where there are fewer.
+// The eight bytes from a position on as a number, big-endian; 0 where there are fewer.
 pub fn bits_at(list: &[u8], at: usize) -> u64
     ensures { λ r. ⌜ r ≡ bitsAt (now (list .entry)) at ⌝ }
 {
@@ -47,7 +47,7 @@ pub fn bits_at(list: &[u8], at: usize) -> u64
     frame::bits_of(&list[at..])
 }
 
-// The ID as encoded of a frame whose payload starts here: b is its kind, x its work number if it is a container.
+// The ID as encoded of a whole frame whose payload starts here: b is its kind, x what the first pass left in its work number if it is a container.
 pub fn final_id(list: &[u8], b: u8, start: usize, x: u32) -> u8
     ensures { λ r. ⌜ r ≡ finalId (now (list .entry)) b start x ⌝ }
 {

@@ -1,5 +1,5 @@
 // The calls on places, in numbers: 0, where the lent numbers then start with what is asked for; the number of the fault met; or 3 for no more, 5 for not
-// there, 12 for too few numbers lent.
+// there, 6 for a wrong kind; 12, before all else, for too few numbers lent. After any but 0 the lent numbers are as before.
 use place_replies::after_of;
 use places::Place;
 ghost use mathlib.Core.Path.{_≡_};
@@ -8,7 +8,7 @@ ghost use Rattle.replies.specs.Number.{afterwards};
 ghost use Rattle.replies.specs.Reply.{told};
 ghost use Rattle.place_replies.specs.PlaceReply.{placeOf, afterOf, checkedReply, topReply, stepReply, partReply, foundReply};
 
-// The check of a place.
+// The check of a place: 0 if it is good.
 pub fn check(payload: &[u8], kind: u8, start: usize, end: usize, depth: u32) -> u32
     ensures { λ r. ⌜ r ≡ checkedReply (checked (now (payload .entry)) (placeOf kind start end depth)) .code ⌝ }
 {
@@ -22,7 +22,7 @@ pub fn top(payload: &[u8], answer: &mut [u64]) -> u32
     place_replies::top(Place::top(payload), answer)
 }
 
-// A step: the field's kind, start, end and depth, and where its name begins: the first field with some 0, else the one behind the end last.
+// A step: the field's kind, start, end and depth, and where its name begins, which ends where the payload starts: the first field with some 0, else the one behind the end last.
 pub fn step(
     payload: &[u8],
     kind: u8,

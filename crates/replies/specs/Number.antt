@@ -6,7 +6,7 @@ use mathlib.Core.List.{List}
 abbrev pub truth : Bool → ℕ
 truth t = cond t 1 0
 
--- fewer numbers are lent than the call may answer: no fault, no refusal and no answer has this number
+-- fewer numbers are lent than the call may need. No fault and no refusal of document 01 has this number
 abbrev pub tooFew : ℕ
 tooFew = 12
 

@@ -43,7 +43,7 @@ wrongKind = 6
 abbrev pub outOfRange : ℕ
 outOfRange = 7
 
--- the values stand at the front of the lent numbers, of which n are asked for, whatever the answer is
+-- the values stand at the front of the lent numbers. Whatever the answer is, n of these are asked for
 abbrev pub told : ℕ → Reply → List ℕ → Afterwards
 told n r l = cond (ltb (length l) n) (afterwards tooFew l) (afterwards (r .code) (sets l 0 (r .values)))
 

@@ -16,11 +16,12 @@ pub record Sent : Type 0 where
   pub output : List ℕ
   pub work : List ℕ
 
--- 0 and the encoding's length; or the refusal's number and its place
+-- 0, or the refusal's number
 abbrev pub codeOf : Written → ℕ
 codeOf (Done n) = 0
 codeOf (Refused k p) = refusalNumber k
 
+-- the encoding's length, or the refusal's place
 abbrev pub numberOf : Written → ℕ
 numberOf (Done n) = n
 numberOf (Refused k p) = p
@@ -28,7 +29,7 @@ numberOf (Refused k p) = p
 abbrev pub sentOf : Result → List ℕ → Sent
 sentOf r l = record { code = codeOf (r .answer); held = sets l 0 (numberOf (r .answer) ∷ []); output = r .output; work = r .work }
 
--- where no number is lent for the answer, that is a refusal too: the output is left, and all work numbers are zero
+-- where no number is lent for the answer, nothing is written: the output is left, and all work numbers are zero
 unfoldable pub sent : List ℕ → List ℕ → List ℕ → List ℕ → Sent
 sent list output work l =
     cond (ltb (length l) 1) (record { code = tooFew; held = l; output = output; work = zeros (length work) }) (sentOf (written list output work) l)

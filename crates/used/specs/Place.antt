@@ -1,4 +1,5 @@
--- Where the frame stands whose name begins at a place, among the frames of an object that stand in a part one after another.
+-- Where the first frame stands whose name begins at a place of the part or behind it, among the frames of an object, which stand in the part one after another
+-- with so many levels left.
 use Prim.Native.Nat.{ℕ, zero, suc}
 use mathlib.Core.Bool.{cond}
 use mathlib.Core.List.{List}
@@ -8,7 +9,7 @@ use Rattle.names.specs.declared.Name.{Name}
 use Rattle.names.specs.declared.Name.the-variants as N
 use Rattle.passing.specs.FrameNames.{nameAt}
 
--- a frame at a, whose name is looked at: it is the one, or those behind it
+-- what is read at a: no frame more, or one that is the one, or one before those behind it
 abbrev pub placeAt : ℕ → ℕ → Name → (ℕ → ℕ) → ℕ
 placeAt g a N.Nothing more = a
 placeAt g a (N.At b e n) more = cond (leb g b) a (more n)

@@ -10,14 +10,15 @@ use Rattle.named.specs.Top as named
 abbrev pub asked : ℕ → Modes
 asked n = record { names = isAsked n namesMode; format = isAsked n formatMode }
 
--- the check of the top field
+-- the check of the top field of a payload within the limit
 abbrev pub topAt : ℕ → List ℕ → Field
 topAt n s = named.topAt (asked n) s
 
--- the mask, and zeros in the table
+-- the mask, and the table
 pub record Masked : Type 0 where
   pub answer : ℕ
   pub table : List ℕ
 
+-- the table holds zeros
 unfoldable pub maskWith : ℕ → List ℕ → List ℕ → Masked
 maskWith n s t = record { answer = mask n s; table = replicate (length t) 0 }

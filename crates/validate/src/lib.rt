@@ -63,7 +63,7 @@ fn asked(modes: u32) -> Modes
     }
 }
 
-// The mask ("The mask"): 0, or the first fault that stops, or the sum of the faults that do not.
+// The mask ("The mask"): 0, or the first fault that stops, or the sum of the faults that do not, each once, where its mode is asked.
 pub fn validate(modes: u32, payload: &[u8]) -> u32
     ensures { λ r. ⌜ r ≡ mask modes (now (payload .entry)) ⌝ }
 {

@@ -1,5 +1,5 @@
 // The values of places, in numbers: 0, where the lent numbers then start with the value; the number of the fault met; or 6 for a wrong kind, 7 for out of
-// range, 12 for too few numbers lent.
+// range; 12, before all else, for too few numbers lent. After any but 0 the lent numbers are as before.
 use places::Place;
 ghost use mathlib.Core.Path.{_≡_};
 ghost use Rattle.places.specs.Values.{double, signed, unsigned, ticks};
