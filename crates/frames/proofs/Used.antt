@@ -217,7 +217,15 @@ module _ {A : Type 0} (kind : A → Kind) (pay packs : A → List ℕ) (p : Fram
           let a = u named used (b ∷ s) x q w e in
           let i = ih (x .0 ∷ used) q ys t (bytes-right (b ∷ s) (a .pre) q w (a .all)) e₁ in
           let z : x ∷ ys ≡ xs = cc in
-          rw (← z) (record { pre = a .pre ++ i .pre; all = rw append-assoc (cc (a .all, i .all)); small = simp length-append (omega (arith, a .small, i .small)); few = simp length-append (omega (arith, a .few, i .few)); count = simp length-append (omega (arith, a .some, i .count)) })
+          rw (← z) (record {
+            pre = a .pre ++ i .pre;
+            all = rw append-assoc (cc (a .all, i .all));
+            small = simp length-append
+                (omega (arith, a .small, i .small));
+            few = simp length-append (omega (arith, a .few, i .few));
+            count = simp length-append
+                (omega (arith, a .some, i .count));
+          })
 
   node-used : Uses (nodeKind kind) (nodePayload kind pay) (nodePacks kind pay packs) (frame p)
   node-used named used s x r w h = frame-case p named used s w h λ k q e f g. payload-case p s k q (f .good) g
@@ -239,7 +247,14 @@ module _ {A : Type 0} (kind : A → Kind) (pay packs : A → List ℕ) (p : Fram
         all = joined s (id k) (namePart named (x .0)) q (i .pre) r (f .is) (i .all);
         some = omega arith;
         small = rw (payload-length kind pay b xs, length-append (namePart named (x .0)) (i .pre))
-            (omega (arith, i .small, body-length kind pay b xs, size-le b c (length xs) (length (plain kind pay b xs)), encoded-length (length (body b kind pay xs)) .1));
+            (omega (
+              arith,
+              i .small,
+              body-length kind pay b xs,
+              size-le b c (length xs) (length (plain kind pay b xs)),
+              encoded-length
+                  (length (body b kind pay xs)) .1,
+            ));
         few = rw (node-packs kind pay packs b xs, length-append (namePart named (x .0)) (i .pre)) (omega (arith, i .few));
         three = λ t. rw length-append (omega (arith, f .some t));
       }))

@@ -157,7 +157,8 @@ module _ (f : Form) (m : Modes) (d : ℕ) (g : Faults) (s t₀ : List ℕ) where
                     }
 
     -- the end
-    pub object-end : length s < 16777216 → length s ≤ at → (r : ℕ) (t₁ : List ℕ) → _≡_ {A = Searched} (record { answer = r; table = t₁ }) (told (S.Fields f) s t n)
+    pub object-end : length s < 16777216 → length s ≤ at → (r : ℕ) (t₁ : List ℕ) → _≡_ {A = Searched} (record { answer = r; table = t₁ })
+        (told (S.Fields f) s t n)
         → (v : Faults) → v ≡ objectEnd f m h u (ltb r 16777216) → C.Read v ≡ contentsAt (fieldsIn f s) m d g
     object-end short i r t₁ w v e =
         let a : r ≡ firstTwin (S.Fields f) s =

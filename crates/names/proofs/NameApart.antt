@@ -1,4 +1,5 @@
--- Where names begin: each behind the one before it. A name has a byte before it, its length or a type; only an item of a uniform array has none, and takes a byte itself.
+-- Where names begin: each behind the one before it. A name has a byte before it, its length or a type; only an item of a uniform array has none, and takes
+-- a byte itself.
 use Prim.Native.Nat.{ℕ, suc, _+_, _-_, _≤_, _<_}
 use native.Mathlib.Omega.{arith}
 use mathlib.Core.Path.{_≡_, refl, sym, ap, _∙_}
@@ -48,7 +49,8 @@ name-leads s {n} {fs} {q} h =
     let y : q ≡ r′ = cc in
     rw (z, y) (omega (arith, simp length-append at (ap length es)))
 
-plain-leads : (m : Mark) (s : List ℕ) {x : List ℕ × Kind} {fs : List Flaw} {q : List ℕ} → (bind (readType m s) λ k r. got ([], k) [] r) ≡ got x fs q → length q < length s
+plain-leads : (m : Mark) (s : List ℕ) {x : List ℕ × Kind} {fs : List Flaw} {q : List ℕ} → (bind (readType m s) λ k r. got ([], k) [] r) ≡ got x fs q →
+    length q < length s
     → 1 + (length (x .0) + length q) ≤ length s
 plain-leads m s {x} {fs} {q} h l = bind-got (readType m s) _ h λ k es r gs e i _. let z : x ≡ ([], k) = cc in rw z (omega arith)
 
@@ -60,7 +62,8 @@ shorter m (b ∷ s) {k} {fs} {q} h = go (kindAt m b) h
     go Unknown h = never h
     go (Is l) h = let z : s ≡ q = cc in rw z (omega arith)
 
-front-leads : (f : Form) (s : List ℕ) {x : List ℕ × Kind} {fs : List Flaw} {q : List ℕ} → front f s ≡ got x fs q → lead f + (length (x .0) + length q) ≤ length s
+front-leads : (f : Form) (s : List ℕ) {x : List ℕ × Kind} {fs : List Flaw} {q : List ℕ} → front f s ≡ got x fs q → lead f + (length (x .0) + length q) ≤
+    length s
 unfolding front
 front-leads G.Top s h = plain-leads OfTop s h (front-takes G.Top s h .1)
 front-leads G.Item s h = plain-leads OfItem s h (front-takes G.Item s h .1)

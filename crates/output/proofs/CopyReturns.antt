@@ -21,14 +21,17 @@ pub record Copied (s : List ℕ) (from to : ℕ) (start out : List ℕ) (i : ℕ
 pub copied-start : (s : List ℕ) (from to : ℕ) (out : List ℕ) → Copied s from to out out 0
 copied-start s from to out = record { is = refl }
 
-pub copied-more : (s : List ℕ) (from to : ℕ) (start out : List ℕ) (i : ℕ) → Copied s from to start out i → from + i < length s → Copied s from to start (set out (to + i) (getD s (from + i) 0)) (i + 1)
+pub copied-more : (s : List ℕ) (from to : ℕ) (start out : List ℕ) (i : ℕ) → Copied s from to start out i → from + i < length s → Copied s from to start
+    (set out (to + i) (getD s (from + i) 0)) (i + 1)
 copied-more s from to start out i c h =
     let l : i < length (drop from s) = rw (length-drop from s) (omega arith) in
     let n : length (take i (drop from s)) ≡ i = length-take-le i (drop from s) (omega arith) in
-    let z : sets (sets start to (take i (drop from s))) (to + length (take i (drop from s))) (getD (drop from s) i 0 ∷ []) ≡ sets start to (take i (drop from s) ++ (getD (drop from s) i 0 ∷ [])) = sets-append (take i (drop from s)) (getD (drop from s) i 0 ∷ []) start to in
+    let z : sets (sets start to (take i (drop from s))) (to + length (take i (drop from s))) (getD (drop from s) i 0 ∷ []) ≡ sets start to
+    (take i (drop from s) ++ (getD (drop from s) i 0 ∷ [])) = sets-append (take i (drop from s)) (getD (drop from s) i 0 ∷ []) start to in
     record { is = rw (add-one i, take-suc (drop from s) i 0 l, ← z, n, getD-drop, ← c .is) }
 
-pub copied-end : (s : List ℕ) (from end to : ℕ) (start out : List ℕ) (i : ℕ) → Copied s from to start out i → i ≤ end - from → end - from ≤ i → out ≡ sets start to (between from end s)
+pub copied-end : (s : List ℕ) (from end to : ℕ) (start out : List ℕ) (i : ℕ) → Copied s from to start out i → i ≤ end - from → end - from ≤ i → out ≡ sets
+    start to (between from end s)
 copied-end s from end to start out i c l h = let z : i ≡ end - from = omega arith in c .is ∙ rw z
 
 -- ---- where there is no room, and where there is

@@ -15,4 +15,5 @@ bitsAt s at = bitsIn (drop at s)
 -- Float32 holds becomes one (0A)
 unfoldable pub finalId : List ℕ → ℕ → ℕ → ℕ → ℕ
 finalId s b start x =
-    cond (eqb b 2) (containerId true (uniformIn x)) (cond (eqb b 4) (containerId false (uniformIn x)) (cond (eqb b 11) (cond (holds (bitsAt s start)) 10 11) b))
+    cond (eqb b 2) (containerId true (uniformIn x)) (cond (eqb b 4) (containerId false (uniformIn x))
+    (cond (eqb b 11) (cond (holds (bitsAt s start)) 10 11) b))

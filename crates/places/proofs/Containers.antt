@@ -1,8 +1,7 @@
 -- How a container opens, and how its fields stand in it.
-use Prim.Native.Nat.{ℕ, zero, suc}
+use Prim.Native.Nat.{ℕ}
 use mathlib.Core.Path.{_≡_, refl, ap, _∙_}
 use mathlib.Core.Logic.{_⊎_, inl, inr}
-use mathlib.Core.Bool.{Bool, true, false, cond}
 use mathlib.Core.List.{List, [], _∷_, _++_, append-assoc}
 use lib.ListN.{length, length-append}
 use Rattle.number.specs.BigEndian.{All}
@@ -10,22 +9,18 @@ use Rattle.format.specs.declared.Kind.{Kind}
 use Rattle.format.specs.declared.Kind.the-variants.{Null, Object, UniformObject, Array, UniformArray, Binary, String, IntegerPositive, IntegerNegative}
 use Rattle.format.specs.declared.Kind.the-variants.{Float32, Float64, False, True, ObjectAttachment, BinaryAttachment, Hash, Uuid, DateTime, TimeSpan}
 use Rattle.format.specs.declared.Kind.the-variants.{ObjectId, CustomById, CustomByName}
-use Rattle.format.specs.declared.Known.{Known}
-use Rattle.format.specs.declared.Known.the-variants.{Unknown, Is}
 use Rattle.format.specs.declared.Mark.the-variants.{SharedByFields, SharedByItems}
 use Rattle.format.specs.declared.Form.{Form}
 use Rattle.format.specs.declared.Form.the-variants.{Field, Item, SharedField, SharedItem}
-use Rattle.format.specs.declared.Stop.the-variants.{BadUniform}
-use Rattle.format.specs.Kinds.{typeByte, kindAt, isBare}
+use Rattle.format.specs.Kinds.{typeByte}
 use Rattle.format.specs.declared.Flaw.{Flaw}
-use Rattle.format.specs.Parse.{Out, fault, got, bind, make, readVarUInt}
+use Rattle.format.specs.Parse.{Out, got, bind, make, readVarUInt}
 use Rattle.format.specs.Tree.{Leaf}
-use Rattle.format.specs.Payload.{leaf, payload, Head, value, fieldsIn, itemsIn, sharedFieldsOf, readSharedFields, sharedItemsOf, readSharedItems, readFields}
+use Rattle.format.specs.Payload.{leaf, payload, Head, value, fieldsIn, itemsIn, readSharedFields, readSharedItems, readFields}
 use Rattle.format.specs.Payload.{readItems, head}
 use Rattle.places.specs.Show.{Opens, Before}
 use Rattle.format.proofs.Lists.{append-nil}
-use Rattle.format.proofs.Back.{never}
-use Rattle.format.proofs.KindLaws.{kind-inv}
+use Rattle.format.proofs.SharedKind.{shared-fields-got, shared-items-got}
 use Rattle.format.proofs.Local.{bind-got, local-number}
 use Rattle.places.proofs.FieldBytes.{sized-read, Stood, Unnamed, Sharing}
 
@@ -56,30 +51,13 @@ abbrev SharedFields : List ℕ → Head → Type 0
 SharedFields b h = (j : Kind) × (c : List ℕ) × (h ≡ fieldsIn (SharedField j) c) × (b ≡ typeByte SharedByFields j ∷ c)
 
 shared-fields-is : (b : List ℕ) {h : Head} {gs : List Flaw} → readSharedFields b ≡ got h gs [] → SharedFields b h
-shared-fields-is [] e = never e
-shared-fields-is (c ∷ s) {h} {gs} e = go (kindAt SharedByFields c) s refl e
-  where
-    go : (o : Known) (s : List ℕ) → kindAt SharedByFields c ≡ o → sharedFieldsOf o s ≡ got h gs [] → SharedFields (c ∷ s) h
-    go Unknown s t e = never e
-    go (Is k) [] t e = never e
-    go (Is k) (x ∷ s) t e = (k, x ∷ s, cc, ap (λ y. y ∷ (x ∷ s)) (kind-inv SharedByFields c k t))
+shared-fields-is b e = shared-fields-got b e λ k c s t z. (k, c ∷ s, z, t)
 
 abbrev SharedItems : ℕ → List ℕ → Head → Type 0
 SharedItems n b h = (j : Kind) × (c : List ℕ) × (h ≡ itemsIn (SharedItem j) n c) × (b ≡ typeByte SharedByItems j ∷ c)
 
 shared-items-is : (n : ℕ) (b : List ℕ) {h : Head} {gs : List Flaw} → readSharedItems n b ≡ got h gs [] → SharedItems n b h
-shared-items-is n [] e = never e
-shared-items-is n (c ∷ s) {h} {gs} e = go n (kindAt SharedByItems c) refl e
-  where
-    by : (n : ℕ) (k : Kind) (x : Bool) → kindAt SharedByItems c ≡ Is k → cond x (fault BadUniform) (got (itemsIn (SharedItem k) (suc n) s) [] []) ≡ got h gs []
-        → SharedItems (suc n) (c ∷ s) h
-    by n k true t e = never e
-    by n k false t e = (k, s, cc, ap (λ y. y ∷ s) (kind-inv SharedByItems c k t))
-
-    go : (n : ℕ) (o : Known) → kindAt SharedByItems c ≡ o → sharedItemsOf n o s ≡ got h gs [] → SharedItems n (c ∷ s) h
-    go n Unknown t e = never e
-    go zero (Is k) t e = never e
-    go (suc n) (Is k) t e = by n k (isBare k) t e
+shared-items-is n b {h} e = shared-items-got n b e λ k m s i t _ z. (k, s, rw i z, t)
 
 -- ---- the four containers
 

@@ -11,11 +11,8 @@ use borrow.Author.Tests.{lt-ltb, le-ltb}
 use lib.Dec.{ltb}
 use Rattle.format.specs.Encoding.{concat}
 use Rattle.frames.specs.Program.{hexDigit, hexByte, decimal}
+use Rattle.frames.proofs.PlaceLaws.{sets-append}
 use Rattle.printing.specs.Text.{Put, put, putIn}
-
-sets-append : (a b l : List ℕ) (i : ℕ) → sets (sets l i a) (i + length a) b ≡ sets l i (a ++ b)
-sets-append [] b l i = let e : i + 0 ≡ i = omega arith in rw e
-sets-append (x ∷ a) b l i = let e : i + suc (length a) ≡ suc i + length a = omega arith in rw (e, sets-append a b (set l i x) (suc i))
 
 -- ---- one piece behind the other
 

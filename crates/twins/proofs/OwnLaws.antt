@@ -35,7 +35,8 @@ usedAt f (some n) used = cond (any (equal n) used) (some f) none
 module _ {A : Type 0} (p : FrameReader A) (used : List (List ℕ)) where
   named-own : (x : Kind) (f s : List ℕ)
       → next (frameName f (some used) s) (λ n q. withName n (framePayload p f (payload x) q))
-      ≡ decide (usedAt f (after none (frameName f (some []) s) λ n q. some n) used) (next (frameName f (some []) s) λ n q. withName n (framePayload p f (payload x) q))
+      ≡ decide (usedAt f (after none (frameName f (some []) s) λ n q. some n) used) (next (frameName f (some []) s) λ n q. withName n
+      (framePayload p f (payload x) q))
   named-own x f s = go (readName s)
     where
       on : List ℕ → List ℕ → Frames (List ℕ × Node A)
@@ -90,7 +91,8 @@ named-read {A} p (b ∷ s) x r h =
     last n (refused m q) h = never h
     last n (framed t q) h = let z : x ≡ (n, t) = cc in sym (ap (λ y. y .0) z)
 
-    behind : (k : Kind) (o : Frames (List ℕ)) → (next o λ n q. withName n (framePayload p (b ∷ s) (payload k) q)) ≡ framed x r → (after none o λ n q. some n) ≡ some (x .0)
+    behind : (k : Kind) (o : Frames (List ℕ)) → (next o λ n q. withName n (framePayload p (b ∷ s) (payload k) q)) ≡ framed x r →
+        (after none o λ n q. some n) ≡ some (x .0)
     behind k (refused m q) h = never h
     behind k (framed n q) h = ap some (last n (framePayload p (b ∷ s) (payload k) q) h)
 
@@ -147,7 +149,8 @@ until-own d (suc n) used (b ∷ s) = closes (λ x r. until-own d n (x .0 ∷ use
     step on (some m) e y j = named on m y (λ x r h. same (sym e ∙ own-read d t x r (j ∙ h))) (any (equal m) used)
 
     closes : On → (z : Bool) → cond z (framed [] s) (next (readFrames d (some used) t) strictly)
-        ≡ decide (firstUsed used (cond z [] (withFrame t (ownName d t) (rest (readFrames d (some []) t))))) (cond z (framed [] s) (next (readFrames d (some []) t) loosely))
+        ≡ decide (firstUsed used (cond z [] (withFrame t (ownName d t) (rest (readFrames d (some []) t)))))
+        (cond z (framed [] s) (next (readFrames d (some []) t) loosely))
     closes on true = refl
     closes on false = rw (frames-own d used t) (step on (ownName d t) refl (readFrames d (some []) t) refl)
 

@@ -1,4 +1,5 @@
--- The frames of one object, read whatever names it has so far; and the first whose name it has already. What is inside a frame is read strictly, so a refusal there is
+-- The frames of one object, read whatever names it has so far; and the first whose name it has already. What is inside a frame is read strictly, so a
+-- refusal there is
 -- the write list's: it stands behind every frame of the object that was begun.
 use Prim.Native.Nat.{ℕ, zero, suc}
 use mathlib.Core.Bool.{cond}

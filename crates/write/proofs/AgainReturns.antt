@@ -41,7 +41,8 @@ module _ (s : List ℕ) (at : ℕ) (l : at < length s) (named : Bool) where
     unfolding nameEnd
     start-is = go (readName (drop (at + 1) s)) refl (e ∙ ap nameEnd (rest-all (at + 1) s))
       where
-        go : (o : Out (List ℕ)) → readName (drop (at + 1) s) ≡ o → v ≡ nameEndBy (length (drop (at + 1) s)) o → (at + 1 + v ≡ startBy (length s) (at + 1) o) × (at + 1 + v ≤ length s)
+        go : (o : Out (List ℕ)) → readName (drop (at + 1) s) ≡ o → v ≡ nameEndBy (length (drop (at + 1) s)) o → (at + 1 + v ≡ startBy (length s) (at + 1) o)
+            × (at + 1 + v ≤ length s)
         go (fault j) y z = (omega arith, omega arith)
         go (got n fs r) y z =
             let p = name-parts (drop (at + 1) s) y in

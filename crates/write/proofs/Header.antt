@@ -23,7 +23,8 @@ module _ (named : Bool) (to k : ℕ) (out w : List ℕ) (x : ℕ) (r : CanOpen n
   pub open-number : (n z : ℕ) → n ≡ sizeIn x → z ≡ n → to + length (encoded z) ≤ length out
   open-number n z e i = rw (i, e) (omega (arith, r .room))
 
-  module _ (n z q m v : ℕ) (out₁ : List ℕ) (en : n ≡ sizeIn x) (ez : z ≡ n) (eq : q ≡ to + length (encoded z)) (em : m ≡ widthIn x) (ev : v ≡ m) (eo : out₁ ≡ sets out to (encoded z)) where
+  module _ (n z q m v : ℕ) (out₁ : List ℕ) (en : n ≡ sizeIn x) (ez : z ≡ n) (eq : q ≡ to + length (encoded z)) (em : m ≡ widthIn x) (ev : v ≡ m)
+      (eo : out₁ ≡ sets out to (encoded z)) where
     kept : length out₁ ≡ length out
     kept = rw (eo, length-sets)
 
@@ -59,4 +60,11 @@ module _ (named : Bool) (to k : ℕ) (out w : List ℕ) (x : ℕ) (r : CanOpen n
         pub open-shared : (f c : ℕ) → f ≡ flags (sharedMark named) → c ≡ sharedIn x → (s : ℕ) → s ≡ sizeIn x → (w′ : List ℕ) → w′ ≡ set w k s
             → HasOpened named to k out (set out₁ (q + v) (f + c)) w w′ x (opened q (q + v + 1) false)
         unfolding sharedPart
-        open-shared f c ef ec s es w′ e = record { is-count = count-is; is-to = rw (on, width-is); is-typed = rw on; is-out = rw (out-is, on, width-is, ef, ec); is-work = rw es at e }
+        open-shared f c ef ec s es w′ e = record {
+          is-count = count-is;
+          is-to = rw (on, width-is);
+          is-typed = rw on;
+          is-out = rw
+              (out-is, on, width-is, ef, ec);
+          is-work = rw es at e;
+        }

@@ -45,7 +45,8 @@ abbrev position : ℕ → ℕ → ℕ → Position
 position n o k = record { next = n; to = o; opened = k }
 
 -- what was read, with its kind and its reader
-pub leaf-case : {X : Type 0} (b : ℕ) (s : List ℕ) {v : Leaf} {r : List ℕ} → leafOf b s ≡ framed v r → ((k : Kind) (p : List ℕ → Out Leaf) → known b ≡ Is k → b ≡ id k → payload k ≡ leaf p → leafFound s (p s) ≡ framed v r → X) → X
+pub leaf-case : {X : Type 0} (b : ℕ) (s : List ℕ) {v : Leaf} {r : List ℕ} → leafOf b s ≡ framed v r →
+    ((k : Kind) (p : List ℕ → Out Leaf) → known b ≡ Is k → b ≡ id k → payload k ≡ leaf p → leafFound s (p s) ≡ framed v r → X) → X
 unfolding leafOf
 leaf-case {X} b s {v} {r} h c = go (known b) refl h
   where
@@ -68,7 +69,8 @@ same-leaf a b = (cc, cc)
 module _ (s : List ℕ) (at to : ℕ) (out : List ℕ) (g : LeafReady s at 11 to out) where
   double : {X : Type 0} → ((fs : List Flaw) → Double (drop at s) (g .v) fs (g .r) → X) → X
   unfolding known
-  double {X} c = leaf-case 11 (drop at s) (g .reads) λ k p ek ei ep h. leaf-found (drop at s) (p (drop at s)) h λ fs y a b d. leaf-got k p ep (drop at s) (bytes-drop s at (g .bytes)) y a b d
+  double {X} c = leaf-case 11 (drop at s) (g .reads) λ k p ek ei ep h. leaf-found (drop at s) (p (drop at s)) h λ fs y a b d. leaf-got k p ep (drop at s)
+      (bytes-drop s at (g .bytes)) y a b d
       (λ ne. absurd (ne (sym ei))) (λ z q. c fs q)
 
   pub double-high : at + 8 ≤ length s
@@ -88,7 +90,8 @@ module _ (s : List ℕ) (at to : ℕ) (out : List ℕ) (g : LeafReady s at 11 to
           go false h z = clash cc
 
       narrow-bytes : leafPayload (g .v) ≡ toBytes 4 n
-      narrow-bytes = double λ fs d. let t = to-is in let z : leafPayload (g .v) ≡ toBytes 4 (narrow (bitsOf (drop at s))) = rw (t .0) at (d .bytes) in rw (t .1) z
+      narrow-bytes = double λ fs d. let t = to-is in let z : leafPayload (g .v) ≡ toBytes 4 (narrow (bitsOf (drop at s))) = rw (t .0) at (d .bytes) in rw
+          (t .1) z
 
       pub narrow-room : to + 4 ≤ length out
       narrow-room = let z : length (leafPayload (g .v)) ≡ 4 = rw narrow-bytes (to-length 4 n) in omega (arith, g .room)
@@ -99,7 +102,13 @@ module _ (s : List ℕ) (at to : ℕ) (out : List ℕ) (g : LeafReady s at 11 to
             let t = same-leaf h (g .reads) in
             let z : length (leafPayload (g .v)) ≡ 4 = rw narrow-bytes (to-length 4 n) in
             let l : length (g .r) ≡ length (drop at s) - 8 = rw (d .left) (length-drop 8 (drop at s)) in
-            rw (t .0) (record { next = rw (t .1) (omega (arith, d .enough, length-drop at s, g .inside)); on = rw z; same = refl; is-out = rw narrow-bytes eo });
+            rw (t .0) (record {
+              next = rw (t .1) (omega (arith, d .enough, length-drop at s, g .inside));
+              on = rw z;
+              same = refl;
+              is-out = rw narrow-bytes
+                  eo;
+            });
       }
 
     module _ (j : x ≡ N.No) where
@@ -125,7 +134,13 @@ module _ (s : List ℕ) (at to : ℕ) (out : List ℕ) (g : LeafReady s at 11 to
             let t = same-leaf h (g .reads) in
             let l : length (g .r) ≡ length (drop at s) - 8 = rw (d .left) (length-drop 8 (drop at s)) in
             let m : at + 8 - at ≡ 8 = omega arith in
-            rw (t .0) (record { next = rw (t .1) (omega (arith, d .enough, length-drop at s, g .inside)); on = rw wide-length; same = refl; is-out = rw wide-bytes (rw m at eo) });
+            rw (t .0) (record {
+              next = rw (t .1) (omega (arith, d .enough, length-drop at s, g .inside));
+              on = rw wide-length;
+              same = refl;
+              is-out = rw
+                  wide-bytes (rw m at eo);
+            });
       }
 
 -- ---- any other leaf
@@ -141,7 +156,8 @@ module _ (s : List ℕ) (at b to : ℕ) (out : List ℕ) (g : LeafReady s at b t
     -- it stands there, and ends there
     plain : (drop at s ≡ leafPayload (g .v) ++ g .r) × (end ≡ at + length (leafPayload (g .v)))
     unfolding endAt leafEnd
-    plain = leaf-case b (drop at s) (g .reads) λ k p ek ei ep h. leaf-found (drop at s) (p (drop at s)) h λ fs y u v w. leaf-got k p ep (drop at s) (bytes-drop s at (g .bytes)) y u v w
+    plain = leaf-case b (drop at s) (g .reads) λ k p ek ei ep h. leaf-found (drop at s) (p (drop at s)) h λ fs y u v w. leaf-got k p ep (drop at s)
+        (bytes-drop s at (g .bytes)) y u v w
         (λ nk fe es ekk.
         let n : length (drop at s) ≡ length (leafPayload (g .v)) + length (g .r) = ap length es ∙ length-append (leafPayload (g .v)) (g .r) in
         let z : endIn (headAt k noModes nothing (drop at s)) ≡ length (drop at s) - length (g .r) = rw (heading-leaf k p ep noModes nothing (drop at s), y) in
@@ -150,7 +166,8 @@ module _ (s : List ℕ) (at b to : ℕ) (out : List ℕ) (g : LeafReady s at b t
         (λ z q. absurd (ne (ei ∙ ap id z)))
 
     pub plain-inside : (at ≤ end) × (end ≤ length s)
-    plain-inside = let z = plain in let n : length (drop at s) ≡ length (leafPayload (g .v)) + length (g .r) = ap length (z .0) ∙ length-append (leafPayload (g .v)) (g .r) in (omega (arith, z .1), omega (arith, z .1, length-drop at s, g .inside))
+    plain-inside = let z = plain in let n : length (drop at s) ≡ length (leafPayload (g .v)) + length (g .r) = ap length (z .0) ∙ length-append
+        (leafPayload (g .v)) (g .r) in (omega (arith, z .1), omega (arith, z .1, length-drop at s, g .inside))
 
     pub plain-low : at ≤ end
     plain-low = plain-inside .0

@@ -31,7 +31,8 @@ module _ (n : ℕ) (out out′ : List ℕ) (at : ℕ) (r : Stored) (h : afterwar
   put-is = h ∙ rw (le-leb (at + length (encoded n)) (length out) l)
 
   pub put-next : (next : ℕ) → r ≡ Done next → next ≡ at + length (encoded n)
-  put-next next e = let z : r ≡ Done (at + length (encoded n)) = ap (λ x. x .answer) put-is in let y : Done next ≡ Done (at + length (encoded n)) = sym e ∙ z in cc
+  put-next next e = let z : r ≡ Done (at + length (encoded n)) = ap (λ x. x .answer) put-is in let y : Done next ≡ Done (at + length (encoded n)) = sym e ∙
+      z in cc
 
   pub put-held : out′ ≡ sets out at (encoded n)
   put-held = ap (λ x. x .held) put-is
@@ -44,7 +45,8 @@ module _ (n : ℕ) (out out′ : List ℕ) (at : ℕ) (r : Stored) (h : afterwar
 
 -- ---- a Float32
 
-pub float-bytes : (out : List ℕ) (at v : ℕ) → set (set (set (set out at (v / 16777216 % 256)) (at + 1) (v / 65536 % 256)) (at + 2) (v / 256 % 256)) (at + 3) (v % 256) ≡ sets out at (toBytes 4 v)
+pub float-bytes : (out : List ℕ) (at v : ℕ) → set (set (set (set out at (v / 16777216 % 256)) (at + 1) (v / 65536 % 256)) (at + 2) (v / 256 % 256)) (at + 3)
+    (v % 256) ≡ sets out at (toBytes 4 v)
 float-bytes out at v =
     let a : at + 1 ≡ suc at = omega arith in
     let b : at + 2 ≡ suc (suc at) = omega arith in
@@ -91,7 +93,8 @@ module _ (at : ℕ) (named typed : Bool) (i : ℕ) where
 
 -- ---- type byte and name
 
-module _ (s : List ℕ) (from start : ℕ) (l : from ≤ start) (h : start ≤ length s) (named typed : Bool) (i : ℕ) (out : List ℕ) (to : ℕ) (at : ℕ) (e : at ≡ to + length (typePart named typed i)) where
+module _ (s : List ℕ) (from start : ℕ) (l : from ≤ start) (h : start ≤ length s) (named typed : Bool) (i : ℕ) (out : List ℕ) (to : ℕ) (at : ℕ)
+    (e : at ≡ to + length (typePart named typed i)) where
   pub front-room : to + (length (typePart named typed i) + (start - from)) ≤ length out → to + length (typePart named typed i) ≤ length out
   front-room q = omega arith
 

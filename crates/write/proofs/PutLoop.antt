@@ -24,7 +24,8 @@ use Rattle.frames.proofs.PackedLaws.{numbers-long}
 use Rattle.frames.proofs.Used.{read-used}
 use Rattle.write.proofs.PutState.{sets-behind, holds-behind, contents-case, sharedOf, bodyOf, partsOf, sizesIn, packsIn, body-size, PutLoop}
 
-module _ (d : ℕ) (s : List ℕ) (at : ℕ) (named : Bool) (to k : ℕ) (out₀ w₀ : List ℕ) (q : ℕ) (typed : Bool) (out w : List ℕ) (p e j n : ℕ) (l : PutLoop d s at named to k out₀ w₀ q typed out w p e j n) where
+module _ (d : ℕ) (s : List ℕ) (at : ℕ) (named : Bool) (to k : ℕ) (out₀ w₀ : List ℕ) (q : ℕ) (typed : Bool) (out w : List ℕ) (p e j n : ℕ)
+    (l : PutLoop d s at named to k out₀ w₀ q typed out w p e j n) where
   pub put-stop : (out′ w′ : List ℕ) (u : Position) → length s ≤ p → ContentsMakes d s at named to k out₀ out′ w₀ w′ u
   put-stop out′ w′ u h = contents-case d s named (l .fuel) (l .used) p (l .ys) (l .r) (l .todo) (λ i. absurd (omega arith)) (λ i. absurd (omega arith))
 
@@ -34,15 +35,18 @@ module _ (d : ℕ) (s : List ℕ) (at : ℕ) (named : Bool) (to k : ℕ) (out₀
   module _ (h : p < length s) where
     module _ (z : getD s p 0 ≡ 0) where
       closed : {X : Type 0} → (l .zs ≡ l .xs → l .r ≡ drop (p + 1) s → X) → X
-      closed c = contents-case d s named (l .fuel) (l .used) p (l .ys) (l .r) (l .todo) (λ i i₂ ey er. c (l .all ∙ rw (ey, append-nil)) er) (λ i i₂. absurd (i₂ z))
+      closed c = contents-case d s named (l .fuel) (l .used) p (l .ys) (l .r) (l .todo) (λ i i₂ ey er. c (l .all ∙ rw (ey, append-nil)) er)
+          (λ i i₂. absurd (i₂ z))
 
       pub put-close-room : q + length (countPart named n) ≤ length out
       put-close-room = closed λ i er. let y : n ≡ length (l .zs) = rw i (l .is-n) in rw (long, y) (omega (arith, l .is-e, l .room))
 
-      pub put-close : (out′ : List ℕ) → out′ ≡ sets out q (countPart named n) → (u : Position) → u .next ≡ p + 1 → u .to ≡ e → u .opened ≡ j → ContentsMakes d s at named to k out₀ out′ w₀ w u
+      pub put-close : (out′ : List ℕ) → out′ ≡ sets out q (countPart named n) → (u : Position) → u .next ≡ p + 1 → u .to ≡ e → u .opened ≡ j → ContentsMakes
+          d s at named to k out₀ out′ w₀ w u
       put-close out′ eo u en et ej = record { made = λ t r gv. closed λ i er. go t r (same-leaf (gv .reads) (l .whole)) i er }
         where
-          go : (t : Tree (suc d)) (r : List ℕ) → (t ≡ nodeOf named (l .zs)) × (r ≡ l .r) → l .zs ≡ l .xs → l .r ≡ drop (p + 1) s → Made (length s) k to (payloadOf (suc d) t) (sizesOf (suc d) t) out₀ out′ w₀ w u r
+          go : (t : Tree (suc d)) (r : List ℕ) → (t ≡ nodeOf named (l .zs)) × (r ≡ l .r) → l .zs ≡ l .xs → l .r ≡ drop (p + 1) s → Made (length s) k to
+              (payloadOf (suc d) t) (sizesOf (suc d) t) out₀ out′ w₀ w u r
           go t r (et′, er′) i er =
               let y : n ≡ length (l .zs) = rw i (l .is-n) in
               let b = bodyOf d named (l .zs) in
@@ -52,13 +56,25 @@ module _ (d : ℕ) (s : List ℕ) (at : ℕ) (named : Bool) (to k : ℕ) (out₀
               let f : sizesOf (suc d) (nodeOf named (l .zs)) ≡ length b ∷ sizesIn d (l .zs) = node-sizes (kindOf d) (payloadOf d) (sizesOf d) named (l .zs) in
               let xs-zs : l .xs ≡ l .zs = sym i in
               let ee : e ≡ q + length c + length m = l .is-e ∙ ap (λ (t : List (List ℕ × Tree d)). q + length c + length (partsOf d named (l .zs) t)) xs-zs in
-              let eo₁ : out ≡ sets (sets out₀ to (encoded (length b))) (q + length c) m = l .is-out ∙ ap (λ (t : List (List ℕ × Tree d)). sets (sets out₀ to (encoded (length b))) (q + length c) (partsOf d named (l .zs) t)) xs-zs in
-              let eo₂ : out′ ≡ sets (sets out₀ to (encoded (length b))) q b = eo ∙ ap (λ (t : ℕ). sets out q (countPart named t)) y ∙ ap (λ (t : List ℕ). sets t q c) eo₁ ∙ sets-back c m (sets out₀ to (encoded (length b))) q in
-              let eo₃ : out′ ≡ sets out₀ to (encoded (length b) ++ b) = eo₂ ∙ ap (λ (t : ℕ). sets (sets out₀ to (encoded (length b))) t b) (l .is-q) ∙ sets-append (encoded (length b)) b out₀ to in
-              let ew : w ≡ sets w₀ k (length b ∷ sizesIn d (l .zs)) = l .is-work ∙ ap (λ (t : List (List ℕ × Tree d)). sets w₀ k (length b ∷ sizesIn d t)) xs-zs in
-              let ejj : j ≡ k + length (length b ∷ sizesIn d (l .zs)) = l .is-j ∙ ap (λ (t : List (List ℕ × Tree d)). k + length (length b ∷ sizesIn d t)) xs-zs in
+              let eo₁ : out ≡ sets (sets out₀ to (encoded (length b))) (q + length c) m = l .is-out ∙ ap
+              (λ (t : List (List ℕ × Tree d)). sets (sets out₀ to (encoded (length b))) (q + length c) (partsOf d named (l .zs) t)) xs-zs in
+              let eo₂ : out′ ≡ sets (sets out₀ to (encoded (length b))) q b = eo ∙ ap (λ (t : ℕ). sets out q (countPart named t)) y ∙ ap
+              (λ (t : List ℕ). sets t q c) eo₁ ∙ sets-back c m (sets out₀ to (encoded (length b))) q in
+              let eo₃ : out′ ≡ sets out₀ to (encoded (length b) ++ b) = eo₂ ∙ ap (λ (t : ℕ). sets (sets out₀ to (encoded (length b))) t b) (l .is-q) ∙
+              sets-append (encoded (length b)) b out₀ to in
+              let ew : w ≡ sets w₀ k (length b ∷ sizesIn d (l .zs)) = l .is-work ∙ ap (λ (t : List (List ℕ × Tree d)). sets w₀ k (length b ∷ sizesIn d t))
+              xs-zs in
+              let ejj : j ≡ k + length (length b ∷ sizesIn d (l .zs)) = l .is-j ∙ ap (λ (t : List (List ℕ × Tree d)). k + length (length b ∷ sizesIn d t))
+              xs-zs in
               let on₁ : e ≡ to + length (encoded (length b) ++ b) = rw length-append (omega (arith, ee, l .is-q, body-size d named (l .zs))) in
-              rw et′ (record { next = en ∙ rw (er′ ∙ er) (sym (place s (p + 1) (omega arith))); on = et ∙ on₁ ∙ rw a; more = ej ∙ ejj ∙ rw f; is-out = eo₃ ∙ rw a; is-work = ew ∙ rw f })
+              rw et′ (record {
+                next = en ∙ rw (er′ ∙ er) (sym (place s (p + 1) (omega arith)));
+                on = et ∙ on₁ ∙ rw a;
+                more = ej ∙ ejj ∙ rw f;
+                is-out = eo₃ ∙
+                    rw a;
+                is-work = ew ∙ rw f;
+              })
 
     module _ (z : getD s p 0 ≡ 0 → ⊥) where
       -- the next field
@@ -75,8 +91,11 @@ module _ (d : ℕ) (s : List ℕ) (at : ℕ) (named : Bool) (to k : ℕ) (out₀
 
       follows : Next
       follows = contents-case d s named (l .fuel) (l .used) p (l .ys) (l .r) (l .todo) (λ i i₂. absurd (z i₂)) λ i i₂ m em x u zs e₁ e₂ ey.
-          let a : length (concat (partOf d named typed) (l .ys)) ≡ length (partOf d named typed x) + length (concat (partOf d named typed) zs) = ap (λ (t : List (List ℕ × Tree d)). length (concat (partOf d named typed) t)) ey ∙ length-append (partOf d named typed x) (concat (partOf d named typed) zs) in
-          let b : packsIn d (l .ys) ++ l .more ≡ packsOf d (x .1) ++ (packsIn d zs ++ l .more) = ap (λ (t : List (List ℕ × Tree d)). packsIn d t ++ l .more) ey ∙ append-assoc (packsOf d (x .1)) (packsIn d zs) (l .more) in
+          let a : length (concat (partOf d named typed) (l .ys)) ≡ length (partOf d named typed x) + length (concat (partOf d named typed) zs) = ap
+          (λ (t : List (List ℕ × Tree d)). length (concat (partOf d named typed) t)) ey ∙ length-append (partOf d named typed x)
+          (concat (partOf d named typed) zs) in
+          let b : packsIn d (l .ys) ++ l .more ≡ packsOf d (x .1) ++ (packsIn d zs ++ l .more) = ap (λ (t : List (List ℕ × Tree d)). packsIn d t ++ l .more)
+          ey ∙ append-assoc (packsOf d (x .1)) (packsIn d zs) (l .more) in
           record { fuel = m; x = x; left = u; zs = zs; reads = e₁; todo = e₂; are = ey; holds = l .holds ∙ b; room = omega (arith, l .room) }
 
       given-here : (v : Next) → FieldGiven d s p named j w (v .x) (v .left)
@@ -99,13 +118,19 @@ module _ (d : ℕ) (s : List ℕ) (at : ℕ) (named : Bool) (to k : ℕ) (out₀
             let er : drop (u .next) s ≡ v .left = rw en (t .2) in
             let b = encoded (length (bodyOf d named (l .zs))) in
             let ef = l .is-typed in
-            let cs : concat (partOf d named (not (uniform named (sharedOf d (l .zs))))) (l .xs ++ (x ∷ [])) ≡ concat (partOf d named (not (uniform named (sharedOf d (l .zs))))) (l .xs) ++ partOf d named typed x = concat-snoc (partOf d named (not (uniform named (sharedOf d (l .zs))))) (l .xs) x ∙ ap (λ (t : Bool). concat (partOf d named (not (uniform named (sharedOf d (l .zs))))) (l .xs) ++ partOf d named t x) (sym ef) in
+            let cs : concat (partOf d named (not (uniform named (sharedOf d (l .zs))))) (l .xs ++ (x ∷ [])) ≡ concat
+            (partOf d named (not (uniform named (sharedOf d (l .zs))))) (l .xs) ++ partOf d named typed x = concat-snoc
+            (partOf d named (not (uniform named (sharedOf d (l .zs))))) (l .xs) x ∙ ap (λ (t : Bool). concat
+            (partOf d named (not (uniform named (sharedOf d (l .zs))))) (l .xs) ++ partOf d named t x) (sym ef) in
             let ps : partsOf d named (l .zs) (l .xs ++ (x ∷ [])) ≡ partsOf d named (l .zs) (l .xs) ++ partOf d named typed x = rw (cs, append-assoc) in
-            let ss : sizesIn d (l .xs ++ (x ∷ [])) ≡ sizesIn d (l .xs) ++ sizesOf d (x .1) = concat-snoc (λ (x : List ℕ × Tree d). sizesOf d (x .1)) (l .xs) x in
+            let ss : sizesIn d (l .xs ++ (x ∷ [])) ≡ sizesIn d (l .xs) ++ sizesOf d (x .1) = concat-snoc (λ (x : List ℕ × Tree d). sizesOf d (x .1)) (l .xs)
+            x in
             let z₁ = length (bodyOf d named (l .zs)) in
             let o₁ : out′ ≡ sets (sets out₀ to b) (q + length (countPart named (length (l .zs)))) (partsOf d named (l .zs) (l .xs) ++ partOf d named typed x)
-            = sets-behind out (sets out₀ to b) out′ e (q + length (countPart named (length (l .zs)))) (partsOf d named (l .zs) (l .xs)) (partOf d named typed x) (m .is-out) (l .is-out) (l .is-e) in
-            let w₁ : w′ ≡ sets w₀ k (z₁ ∷ (sizesIn d (l .xs) ++ sizesOf d (x .1))) = sets-behind w w₀ w′ j k (z₁ ∷ sizesIn d (l .xs)) (sizesOf d (x .1)) (m .is-work) (l .is-work) (l .is-j) in
+            = sets-behind out (sets out₀ to b) out′ e (q + length (countPart named (length (l .zs)))) (partsOf d named (l .zs) (l .xs))
+            (partOf d named typed x) (m .is-out) (l .is-out) (l .is-e) in
+            let w₁ : w′ ≡ sets w₀ k (z₁ ∷ (sizesIn d (l .xs) ++ sizesOf d (x .1))) = sets-behind w w₀ w′ j k (z₁ ∷ sizesIn d (l .xs)) (sizesOf d (x .1))
+            (m .is-work) (l .is-work) (l .is-j) in
             record {
               on = omega (arith, g .some);
               now = record {
@@ -130,7 +155,8 @@ module _ (d : ℕ) (s : List ℕ) (at : ℕ) (named : Bool) (to k : ℕ) (out₀
                 is-n = rw length-append (omega (arith, l .is-n));
                 is-j = rw (ss, length-append) (omega (arith, m .more, l .is-j));
                 is-work = rw ss w₁;
-                holds = holds-behind w w′ (sizesOf d (x .1)) (packsOf d (x .1)) (packsIn d (v .zs) ++ l .more) j (u .opened) (m .is-work) (m .more) (v .holds) (numbers-long d (x .1));
+                holds = holds-behind w w′ (sizesOf d (x .1)) (packsOf d (x .1)) (packsIn d (v .zs) ++ l .more) j (u .opened) (m .is-work) (m .more)
+                    (v .holds) (numbers-long d (x .1));
                 room = omega (arith, m .on, v .room);
               };
             }

@@ -28,7 +28,8 @@ module _ (d : ℕ) (s : List ℕ) (at : ℕ) (named : Bool) where
   node-case : {X : Type 0} (t : Tree (suc d)) (r : List ℕ) → containerOf named (readFrames d) (drop at s) ≡ framed t r
       → ((zs : List (List ℕ × Tree d)) → t ≡ nodeOf named zs → contentsBy named (readFrames d) (length (drop at s)) [] (drop at s) ≡ framed zs r → X) → X
   unfolding containerOf
-  node-case t r h f = next-got (contentsBy named (readFrames d) (length (drop at s)) [] (drop at s)) _ h λ zs q e h₁. let z : q ≡ r = cc in f zs (cc) (e ∙ ap (λ (t : List ℕ). framed zs t) z)
+  node-case t r h f = next-got (contentsBy named (readFrames d) (length (drop at s)) [] (drop at s)) _ h λ zs q e h₁. let z : q ≡ r = cc in f zs (cc)
+      (e ∙ ap (λ (t : List ℕ). framed zs t) z)
 
   module _ (to k : ℕ) (out w : List ℕ) (g : ContentsReady d s at named to k out w) where
     record Parts : Type 0 where
@@ -44,13 +45,26 @@ module _ (d : ℕ) (s : List ℕ) (at : ℕ) (named : Bool) where
     parts : Parts
     parts = node-case (g .t) (g .r) (g .given .reads) λ zs et e.
         let h : drop k w ≡ packed named (sharedOf d zs) (length zs) (length (bodyOf d named zs)) ∷ (packsIn d zs ++ g .given .more)
-        = g .given .holds ∙ ap (λ (t : Tree (suc d)). packsOf (suc d) t ++ g .given .more) et ∙ ap (λ (t : List ℕ). t ++ g .given .more) (node-packs (kindOf d) (payloadOf d) (packsOf d) named zs) in
+        = g .given .holds ∙ ap (λ (t : Tree (suc d)). packsOf (suc d) t ++ g .given .more) et ∙ ap (λ (t : List ℕ). t ++ g .given .more)
+        (node-packs (kindOf d) (payloadOf d) (packsOf d) named zs) in
         let z = drop-head w k _ _ h in
         let a : length (payloadOf (suc d) (g .t)) ≡ length (encoded (length (bodyOf d named zs))) + length (bodyOf d named zs)
-        = ap (λ (t : Tree (suc d)). length (payloadOf (suc d) t)) et ∙ ap length (node-payload (kindOf d) (payloadOf d) named zs) ∙ length-append (encoded (length (bodyOf d named zs))) (bodyOf d named zs) in
-        let c = contents-used (kindOf d) (payloadOf d) (packsOf d) (readFrames d) (read-used d) named (length (drop at s)) [] (drop at s) zs (g .r) (bytes-drop s at (g .given .bytes)) e in
+        = ap (λ (t : Tree (suc d)). length (payloadOf (suc d) t)) et ∙ ap length (node-payload (kindOf d) (payloadOf d) named zs) ∙ length-append
+        (encoded (length (bodyOf d named zs))) (bodyOf d named zs) in
+        let c = contents-used (kindOf d) (payloadOf d) (packsOf d) (readFrames d) (read-used d) named (length (drop at s)) [] (drop at s) zs (g .r)
+        (bytes-drop s at (g .given .bytes)) e in
         let n : length (drop at s) ≡ length (c .pre) + length (g .r) = ap length (c .all) ∙ length-append (c .pre) (g .r) in
-        record { zs = zs; is-t = g .given .reads ∙ ap (λ (t : Tree (suc d)). framed t (g .r)) et; todo = e; num = z .0; mine = z .1; holds = z .2; room = omega (arith, g .room); few = omega (arith, c .count, g .given .short, length-drop at s) }
+        record {
+          zs = zs;
+          is-t = g .given .reads ∙ ap (λ (t : Tree (suc d)). framed t (g .r)) et;
+          todo = e;
+          num = z .0;
+          mine = z .1;
+          holds = z .2;
+          room =
+              omega (arith, g .room);
+          few = omega (arith, c .count, g .given .short, length-drop at s);
+        }
 
     record Num (x : ℕ) (zs : List (List ℕ × Tree d)) : Type 0 where
       pub size : sizeIn x ≡ length (bodyOf d named zs)
@@ -62,8 +76,15 @@ module _ (d : ℕ) (s : List ℕ) (at : ℕ) (named : Bool) where
     unfolding sharedPart
     num = let q = parts in let zs = q .zs in let z = length (bodyOf d named zs) in
         let u : uniformIn (getD w k 0) ≡ uniform named (sharedOf d zs) = rw (q .num) (packed-uniform (kindOf d) named zs z (q .few)) in
-        let c : sharedIn (getD w k 0) ≡ cond (uniform named (sharedOf d zs)) (sharedOf d zs) 0 = rw (q .num) (packed-shared-in (kindOf d) named zs z (q .few)) in
-        record { size = rw (q .num) (packed-size (kindOf d) named zs z (q .few)); uni = u; width = rw (q .num) (packed-width (kindOf d) named zs z (q .few)); byte = rw (u, c) (go (uniform named (sharedOf d zs)) (sharedOf d zs)) }
+        let c : sharedIn (getD w k 0) ≡ cond (uniform named (sharedOf d zs)) (sharedOf d zs) 0 = rw (q .num)
+        (packed-shared-in (kindOf d) named zs z (q .few)) in
+        record {
+          size = rw (q .num) (packed-size (kindOf d) named zs z (q .few));
+          uni = u;
+          width = rw (q .num)
+              (packed-width (kindOf d) named zs z (q .few));
+          byte = rw (u, c) (go (uniform named (sharedOf d zs)) (sharedOf d zs));
+        }
       where
         go : (b : Bool) (c : ℕ) → cond b ((flags (sharedMark named) + cond b c 0) ∷ []) [] ≡ cond b ((flags (sharedMark named) + c) ∷ []) []
         go true c = refl
@@ -72,20 +93,27 @@ module _ (d : ℕ) (s : List ℕ) (at : ℕ) (named : Bool) where
     pub put-can : CanOpen named to k out w (getD w k 0)
     put-can = let q = parts in let m = num in
         let z = body-size d named (q .zs) in
-        let y : length (partsOf d named (q .zs) (q .zs)) ≡ length (sharedPart named (uniform named (sharedOf d (q .zs))) (sharedOf d (q .zs))) + length (concat (partOf d named (not (uniform named (sharedOf d (q .zs))))) (q .zs)) = length-append (sharedPart named (uniform named (sharedOf d (q .zs))) (sharedOf d (q .zs))) (concat (partOf d named (not (uniform named (sharedOf d (q .zs))))) (q .zs)) in
+        let y : length (partsOf d named (q .zs) (q .zs)) ≡ length (sharedPart named (uniform named (sharedOf d (q .zs))) (sharedOf d (q .zs))) + length
+        (concat (partOf d named (not (uniform named (sharedOf d (q .zs))))) (q .zs)) = length-append
+        (sharedPart named (uniform named (sharedOf d (q .zs))) (sharedOf d (q .zs))) (concat (partOf d named (not (uniform named (sharedOf d (q .zs)))))
+        (q .zs)) in
         record { mine = q .mine; room = rw (m .byte, m .size, m .width) (omega (arith, q .room)) }
 
     pub put-mine : k < length w
     put-mine = parts .mine
 
-    pub put-start : (out₁ w₁ : List ℕ) (h : Opened) → HasOpened named to k out out₁ w w₁ (getD w k 0) h → PutLoop d s at named to k out w (h .count) (h .typed) out₁ w₁ at (h .to) (k + 1) 0
+    pub put-start : (out₁ w₁ : List ℕ) (h : Opened) → HasOpened named to k out out₁ w w₁ (getD w k 0) h → PutLoop d s at named to k out w (h .count)
+        (h .typed) out₁ w₁ at (h .to) (k + 1) 0
     put-start out₁ w₁ h v = let q = parts in let m = num in
         let c = sharedOf d (q .zs) in
         let x = getD w k 0 in
         let z = body-size d named (q .zs) in
-        let y : length (partsOf d named (q .zs) (q .zs)) ≡ length (sharedPart named (uniform named c) c) + length (concat (partOf d named (not (uniform named c))) (q .zs)) = length-append (sharedPart named (uniform named c) c) (concat (partOf d named (not (uniform named c))) (q .zs)) in
+        let y : length (partsOf d named (q .zs) (q .zs)) ≡ length (sharedPart named (uniform named c) c) + length
+        (concat (partOf d named (not (uniform named c))) (q .zs)) = length-append (sharedPart named (uniform named c) c)
+        (concat (partOf d named (not (uniform named c))) (q .zs)) in
         let eq : h .count ≡ to + length (encoded (length (bodyOf d named (q .zs)))) = v .is-count ∙ rw (m .size) in
-        let ee : h .to ≡ h .count + length (countPart named (length (q .zs))) + length (sharedPart named (uniform named c) c) = v .is-to ∙ rw (m .byte, m .width) in
+        let ee : h .to ≡ h .count + length (countPart named (length (q .zs))) + length (sharedPart named (uniform named c) c) = v .is-to ∙ rw
+        (m .byte, m .width) in
         let ef : h .typed ≡ not (uniform named c) = v .is-typed ∙ rw (m .uni) in
         let ew : w₁ ≡ set w k (length (bodyOf d named (q .zs))) = v .is-work ∙ rw (m .size) in
         record {

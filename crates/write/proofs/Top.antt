@@ -36,7 +36,8 @@ abbrev result : Written → List ℕ → List ℕ → Result
 result a o w = record { answer = a; output = o; work = w }
 
 -- a list that describes a tree is one field, and nothing behind it
-list-read : {X : Type 0} (d : ℕ) (s : List ℕ) {t : Tree d} {r : List ℕ} → readList d s ≡ framed t r → ((x : List ℕ × Tree d) → readFrames d none s ≡ framed x [] → x .1 ≡ t → X) → X
+list-read : {X : Type 0} (d : ℕ) (s : List ℕ) {t : Tree d} {r : List ℕ} → readList d s ≡ framed t r →
+    ((x : List ℕ × Tree d) → readFrames d none s ≡ framed x [] → x .1 ≡ t → X) → X
 unfolding readList
 list-read d [] h c = never h
 list-read {X} d (b ∷ s) {t} {r} h c = go (eqb b 0) h
@@ -62,14 +63,18 @@ module _ (s out w : List ℕ) (m : Settled) (w₁ : List ℕ) (e : measurement m
     pub few : length (sizesOf depthLimit t) ≤ length w
     pub room : length (encoding depthLimit t) ≤ length out
 
-  either : {X : Type 0} → ((n : Refusal) (p : ℕ) → written s out w ≡ resultOf (refuse n p) out w → m ≡ S.Refused n p → w₁ ≡ zeros (length w) → X) → ((t : Tree depthLimit) → Ready t → X) → X
+  either : {X : Type 0} → ((n : Refusal) (p : ℕ) → written s out w ≡ resultOf (refuse n p) out w → m ≡ S.Refused n p → w₁ ≡ zeros (length w) → X) →
+      ((t : Tree depthLimit) → Ready t → X) → X
   unfolding written outcome settled settledWithin
   either {X} f g = long (ltb lengthLimit (length s)) refl (λ o y. ap (λ q. resultOf q out w) y) e
     where
-      by : length s ≤ lengthLimit → (t : Tree depthLimit) (r : List ℕ) → readList depthLimit s ≡ framed t r → (a b c : Bool) → ltb (length w) (length (sizesOf depthLimit t)) ≡ a
+      by : length s ≤ lengthLimit → (t : Tree depthLimit) (r : List ℕ) → readList depthLimit s ≡ framed t r → (a b c : Bool) → ltb (length w)
+          (length (sizesOf depthLimit t)) ≡ a
           → ltb (length out) (length (encoding depthLimit t)) ≡ b → ltb lengthLimit (length (encoding depthLimit t)) ≡ c
-          → written s out w ≡ resultOf (cond a (refuse FewWorkNumbers 0) (cond (b || c) (refuse EncodingTooLong 0) (wrote (encoding depthLimit t) (sizesOf depthLimit t)))) out w
-          → measurement m w₁ ≡ settledBy (length w) (id (kindOf depthLimit t)) (packsOf depthLimit t) (cond a (refuse FewWorkNumbers 0) (cond (b || c) (refuse EncodingTooLong 0) (wrote (encoding depthLimit t) (sizesOf depthLimit t)))) → X
+          → written s out w ≡ resultOf (cond a (refuse FewWorkNumbers 0) (cond (b || c) (refuse EncodingTooLong 0)
+          (wrote (encoding depthLimit t) (sizesOf depthLimit t)))) out w
+          → measurement m w₁ ≡ settledBy (length w) (id (kindOf depthLimit t)) (packsOf depthLimit t)
+          (cond a (refuse FewWorkNumbers 0) (cond (b || c) (refuse EncodingTooLong 0) (wrote (encoding depthLimit t) (sizesOf depthLimit t)))) → X
       by l t r y true b c ea eb ec h k = f FewWorkNumbers 0 h (ap (λ x. x .answer) k) (ap (λ x. x .work) k)
       by l t r y false true c ea eb ec h k = f EncodingTooLong 0 h (ap (λ x. x .answer) k) (ap (λ x. x .work) k)
       by l t r y false false true ea eb ec h k = f EncodingTooLong 0 h (ap (λ x. x .answer) k) (ap (λ x. x .work) k)
@@ -85,20 +90,25 @@ module _ (s out w : List ℕ) (m : Settled) (w₁ : List ℕ) (e : measurement m
         room = ltb-false (length out) (length (encoding depthLimit t)) eb;
       })
 
-      read : length s ≤ lengthLimit → (o : Frames (Tree depthLimit)) → readList depthLimit s ≡ o → written s out w ≡ resultOf (outcomeAfter depthLimit (length out) (length w) s o) out w
+      read : length s ≤ lengthLimit → (o : Frames (Tree depthLimit)) → readList depthLimit s ≡ o → written s out w ≡ resultOf
+          (outcomeAfter depthLimit (length out) (length w) s o) out w
           → measurement m w₁ ≡ settledAfter depthLimit (length out) (length w) s o → X
       read l (refused n r) y h k = f n (length s - length r) h (ap (λ x. x .answer) k) (ap (λ x. x .work) k)
-      read l (framed t r) y h k = by l t r y (ltb (length w) (length (sizesOf depthLimit t))) (ltb (length out) (length (encoding depthLimit t))) (ltb lengthLimit (length (encoding depthLimit t))) refl refl refl h k
+      read l (framed t r) y h k = by l t r y (ltb (length w) (length (sizesOf depthLimit t))) (ltb (length out) (length (encoding depthLimit t)))
+          (ltb lengthLimit (length (encoding depthLimit t))) refl refl refl h k
 
       long : (b : Bool) → ltb lengthLimit (length s) ≡ b → ((o : Outcome) → outcome (length out) (length w) s ≡ o → written s out w ≡ resultOf o out w)
-          → measurement m w₁ ≡ cond b (settledBy (length w) 0 [] (refuse ListTooLong 0)) (settledAfter depthLimit (length out) (length w) s (readList depthLimit s)) → X
+          → measurement m w₁ ≡ cond b (settledBy (length w) 0 [] (refuse ListTooLong 0)) (settledAfter depthLimit (length out) (length w) s
+          (readList depthLimit s)) → X
       long true i h k = f ListTooLong 0 (h (refuse ListTooLong 0) (rw i)) (ap (λ x. x .answer) k) (ap (λ x. x .work) k)
-      long false i h k = read (ltb-false lengthLimit (length s) i) (readList depthLimit s) refl (h (outcomeAfter depthLimit (length out) (length w) s (readList depthLimit s)) (rw i)) k
+      long false i h k = read (ltb-false lengthLimit (length s) i) (readList depthLimit s) refl (h
+          (outcomeAfter depthLimit (length out) (length w) s (readList depthLimit s)) (rw i)) k
 
   pub w-refused : (n : Refusal) (p : ℕ) → m ≡ S.Refused n p → result (Refused n p) out w₁ ≡ written s out w
   w-refused n p i = either (λ a q h j z. same a q h (sym i ∙ j) z) (λ t r. other (sym i ∙ r .answer))
     where
-      same : (a : Refusal) (q : ℕ) → written s out w ≡ resultOf (refuse a q) out w → S.Refused n p ≡ S.Refused a q → w₁ ≡ zeros (length w) → result (Refused n p) out w₁ ≡ written s out w
+      same : (a : Refusal) (q : ℕ) → written s out w ≡ resultOf (refuse a q) out w → S.Refused n p ≡ S.Refused a q → w₁ ≡ zeros (length w) → result
+          (Refused n p) out w₁ ≡ written s out w
       same a q h j z = let y₁ : n ≡ a = cc in let y₂ : p ≡ q = cc in rw (h, z, y₁, y₂)
 
       other : {Y : Type 0} {a b : ℕ} → S.Refused n p ≡ S.Ready a b → Y
@@ -119,13 +129,22 @@ module _ (s out w : List ℕ) (m : Settled) (w₁ : List ℕ) (e : measurement m
     w-room = ready λ t r ei en. omega (arith, r .room)
 
     given : (t : Tree depthLimit) (r : Ready t) → Known s → FieldGiven depthLimit s 0 false 0 w₁ (r .x) []
-    given t r kn = record { used = []; more = zeros (length w - length (packsOf depthLimit t)); reads = r .reads; holds = rw (r .is) (r .numbers); bytes = bytes-of s kn; short = r .short }
+    given t r kn = record {
+      used = [];
+      more = zeros (length w - length (packsOf depthLimit t));
+      reads = r .reads;
+      holds = rw (r .is) (r .numbers);
+      bytes =
+          bytes-of s kn;
+      short = r .short;
+    }
 
     pub w-ready : Known s → FieldReady depthLimit s 0 false false 1 0 (set out 0 i) w₁
     unfolding typePart namePart encoding
     w-ready kn = ready λ t r ei en. record { x = r .x; r = []; given = given t r kn; room = rw (length-set, r .is) (omega (arith, r .room)) }
 
-    pub w-done : Known s → (out′ w′ : List ℕ) (p : Position) → FieldMakes depthLimit s 0 false false 1 0 (set out 0 i) out′ w₁ w′ p → result (Done n) out′ w′ ≡ written s out w
+    pub w-done : Known s → (out′ w′ : List ℕ) (p : Position) → FieldMakes depthLimit s 0 false false 1 0 (set out 0 i) out′ w₁ w′ p → result (Done n) out′
+        w′ ≡ written s out w
     unfolding typePart namePart encoding
     w-done kn out′ w′ p f = ready λ t r ei en.
         let g = f .made (r .x) [] (given t r kn) in
@@ -136,7 +155,8 @@ module _ (s out w : List ℕ) (m : Settled) (w₁ : List ℕ) (e : measurement m
         let o₂ : i ∷ payloadOf depthLimit (r .x .1) ≡ e′ = rw (r .is, zero-add, ei) in
         let o : out′ ≡ e′ ++ drop (length e′) out = o₁ ∙ ap (sets out 0) o₂ ∙ sets-front e′ out (r .room) in
         let l : length w₁ ≡ length (packsOf depthLimit t) + (length w - length (packsOf depthLimit t)) = rw (r .numbers, length-append, length-replicate) in
-        let d : drop (length z′) w₁ ≡ zeros (length w - length z′) = rw (r .numbers, ← nl) (drop-append-seam (packsOf depthLimit t) (zeros (length w - length (packsOf depthLimit t)))) in
+        let d : drop (length z′) w₁ ≡ zeros (length w - length z′) = rw (r .numbers, ← nl) (drop-append-seam (packsOf depthLimit t)
+        (zeros (length w - length (packsOf depthLimit t)))) in
         let c₁ : w′ ≡ sets w₁ 0 z′ = rw (r .is) at (g .is-work) in
         let c : w′ ≡ z′ ++ zeros (length w - length z′) = c₁ ∙ sets-front z′ w₁ (omega (arith, r .few)) ∙ ap (λ (u : List ℕ). z′ ++ u) d in
         rw (r .all, en, o, c)

@@ -73,7 +73,8 @@ pub record FieldReady (d : ℕ) (s : List ℕ) (at : ℕ) (named typed : Bool) (
   pub room : to + length (partOf d named typed x) ≤ length out
 
 pub record FieldMakes (d : ℕ) (s : List ℕ) (at : ℕ) (named typed : Bool) (to k : ℕ) (out out′ w w′ : List ℕ) (p : Position) : Type 0 where
-  pub made : (x : List ℕ × Tree d) (r : List ℕ) → FieldGiven d s at named k w x r → Made (length s) k to (partOf d named typed x) (sizesOf d (x .1)) out out′ w w′ p r
+  pub made : (x : List ℕ × Tree d) (r : List ℕ) → FieldGiven d s at named k w x r → Made (length s) k to (partOf d named typed x) (sizesOf d (x .1)) out
+      out′ w w′ p r
 
 pub record ContentsGiven (d : ℕ) (s : List ℕ) (at : ℕ) (named : Bool) (k : ℕ) (w : List ℕ) (t : Tree (suc d)) (r : List ℕ) : Type 0 where
   pub more : List ℕ
@@ -90,4 +91,5 @@ pub record ContentsReady (d : ℕ) (s : List ℕ) (at : ℕ) (named : Bool) (to 
   pub room : to + length (payloadOf (suc d) t) ≤ length out
 
 pub record ContentsMakes (d : ℕ) (s : List ℕ) (at : ℕ) (named : Bool) (to k : ℕ) (out out′ w w′ : List ℕ) (p : Position) : Type 0 where
-  pub made : (t : Tree (suc d)) (r : List ℕ) → ContentsGiven d s at named k w t r → Made (length s) k to (payloadOf (suc d) t) (sizesOf (suc d) t) out out′ w w′ p r
+  pub made : (t : Tree (suc d)) (r : List ℕ) → ContentsGiven d s at named k w t r → Made (length s) k to (payloadOf (suc d) t) (sizesOf (suc d) t) out out′
+      w w′ p r

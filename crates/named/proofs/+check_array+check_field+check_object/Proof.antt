@@ -304,7 +304,8 @@ pub +check-array+check-field+check-object-spec : {M : Type 1} → statement M
     (c .before .before .before .first-twin .ensures) .is)
     (λ c. (
       object-end _ _ _ _ _ _ _ _ _ _ _ _ (c .before .before .before .before .before .before .loop .inv)
-          (c .before .before .before .before .before .before .before .before .before .pre .1) (omega arith) _ _ (c .before .before .before .first-twin .ensures)
+          (c .before .before .before .before .before .before .before .before .before .pre .1) (omega arith) _ _
+          (c .before .before .before .first-twin .ensures)
           _ (c .end-object .ensures),
       object-lent _ _ _ _ _ _ _ _ _ _ _ _ (c .before .before .before .before .before .before .loop .inv) _ _
           (c .before .before .before .first-twin .ensures),

@@ -43,7 +43,8 @@ name-at-spec =
           (omega arith),
     ))
     (λ c. name-at-none (c .before .before .before .before .before .before .before .before .args .form) _ _
-    (c .before .before .before .before .before .before .before .before .args .part .now) (c .before .before .before .before .before .before .before .before .args .at)
+    (c .before .before .before .before .before .before .before .before .args .part .now) (c .before .before .before .before .before .before .before .before
+    .args .at)
     _ (c .before .before .before .meet-of .ensures) _ (c .before .before .name-of .ensures) (c .enum-told .given .1))
     (λ c. name-at-some (c .before .before .before .before .before .before .before .before .before .args .form) _ _
     (c .before .before .before .before .before .before .before .before .before .args .part .now)

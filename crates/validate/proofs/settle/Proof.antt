@@ -14,13 +14,20 @@ settle-spec =
     (λ c κs. search laws)
     (λ c. search laws)
     (λ c κs. search laws)
-    (λ c. omega (arith, mask-fits (c .before .before .before .before .before .args .modes) (c .before .before .before .before .before .args .payload .now) (c .before .before .before .before .before .pre .0) _ (c .before .before .before .before .before .pre .1) _ _ _ (c .before .before .field2 .given .1) _ (c .sum-of .ensures)))
+    (λ c. omega (
+      arith,
+      mask-fits (c .before .before .before .before .before .args .modes) (c .before .before .before .before .before .args .payload .now)
+          (c .before .before .before .before .before .pre .0) _ (c .before .before .before .before .before .pre .1) _ _ _
+          (c .before .before .field2 .given .1) _ (c .sum-of .ensures),
+    ))
     (λ c κs. search laws)
     (λ c κs. search laws)
     (λ c. omega (
       arith,
       c .value-if .ensures .1,
-      mask-fits (c .before .before .before .before .before .before .before .args .modes) (c .before .before .before .before .before .before .before .args .payload .now) (c .before .before .before .before .before .before .before .pre .0) _ (c .before .before .before .before .before .before .before .pre .1) _ _ _ (c .before .before .before .before .field2 .given .1) _
+      mask-fits (c .before .before .before .before .before .before .before .args .modes) (c .before .before .before .before .before .before .before .args
+          .payload .now) (c .before .before .before .before .before .before .before .pre .0) _ (c .before .before .before .before .before .before .before
+          .pre .1) _ _ _ (c .before .before .before .before .field2 .given .1) _
           (c .before .before .sum-of .ensures),
     ))
     (λ c. search laws)

@@ -22,7 +22,21 @@ use native.Mathlib.Omega.{arith}
 use mathlib.Core.Path.{_≡_, refl}
 use mathlib.Core.List.{List}
 use lib.ListN.{length}
-use Rattle.write.proofs.PutField.{put-low, put-deep, put-short, put-inside, put-after, put-id, put-front-room, put-object, put-array, put-object-made, put-array-made, put-leaf-ready, put-leaf-made}
+use Rattle.write.proofs.PutField.{
+  put-low,
+  put-deep,
+  put-short,
+  put-inside,
+  put-after,
+  put-id,
+  put-front-room,
+  put-object,
+  put-array,
+  put-object-made,
+  put-array-made,
+  put-leaf-ready,
+  put-leaf-made,
+}
 use Rattle.write.proofs.PutState.{PutLoop}
 use Rattle.write.proofs.PutStart.{put-can, put-mine, put-start}
 use Rattle.write.proofs.PutLoop.{put-stop, put-close-room, put-close, put-item, put-step, put-less}
@@ -55,7 +69,8 @@ put-field-below t =
 abbrev put-contents-Inv-loop : put-contents-lts.InvT-loop
 put-contents-Inv-loop list at named out₀ to work₀ k left q typed e₀ p₀ j₀ count₀ out work e p j count =
     (length out ≡ length out₀) × (length work ≡ length work₀)
-    × ((O W : List ℕ) → PutLoop left list at named to k O W q typed out₀ work₀ p₀ e₀ j₀ count₀ → PutLoop left list at named to k O W q typed out work p e j count)
+    × ((O W : List ℕ) → PutLoop left list at named to k O W q typed out₀ work₀ p₀ e₀ j₀ count₀ → PutLoop left list at named to k O W q typed out work p e j
+    count)
 
 abbrev put-contents-μ-loop : put-contents-lts.MeasureT-loop
 put-contents-μ-loop list at named out₀ to work₀ k left q typed e₀ p₀ j₀ count₀ out work e p j count = length list - p
@@ -77,18 +92,43 @@ pub +put-contents+put-field-spec : {M : Type 1} → statement M
     (λ c. omega (arith, put-mine _ _ _ _ _ _ _ _ (c .before .before .before .before .before .before .before .before .before .before .pre .1)))
     (λ c. (refl, refl, λ O W x. x))
     (λ c. search needs)
-    (λ c κs. put-close-room _ _ _ _ _ _ _ _ _ _ _ _ _ _ _ _ (c .before .before .before .before .loop .inv .2 _ _ (put-start _ _ _ _ _ _ _ _ (c .before .before .before .before .before .before .before .before .before .before .before .before .before .before .before .pre .1) _ _ _ (c .before .before .before .before .before .before .before .before .before .put-head .ensures))) (search needs) (search needs))
+    (λ c κs. put-close-room _ _ _ _ _ _ _ _ _ _ _ _ _ _ _ _ (c .before .before .before .before .loop .inv .2 _ _
+    (put-start _ _ _ _ _ _ _ _ (c .before .before .before .before .before .before .before .before .before .before .before .before .before .before
+    .before .pre .1) _ _ _ (c .before .before .before .before .before .before .before .before .before .put-head .ensures))) (search needs) (search needs))
     (λ c. search needs)
     (λ c. search needs)
     (λ c. search needs)
-    (λ c. put-close _ _ _ _ _ _ _ _ _ _ _ _ _ _ _ _ (c .before .before .before .before .before .before .before .loop .inv .2 _ _ (put-start _ _ _ _ _ _ _ _ (c .before .before .before .before .before .before .before .before .before .before .before .before .before .before .before .before .before .before .pre .1) _ _ _ (c .before .before .before .before .before .before .before .before .before .before .before .before .put-head .ensures))) (search needs) (search needs) _ (c .before .before .put-count .ensures) _ refl refl refl)
-    (λ c κs. (search needs, put-item _ _ _ _ _ _ _ _ _ _ _ _ _ _ _ _ (c .before .before .before .before .before .loop .inv .2 _ _ (put-start _ _ _ _ _ _ _ _ (c .before .before .before .before .before .before .before .before .before .before .before .before .before .before .before .before .pre .1) _ _ _ (c .before .before .before .before .before .before .before .before .before .before .put-head .ensures))) (search needs) (search needs)))
-    (λ c. let l = (c .before .before .before .before .before .before .before .before .before .before .loop .inv .2 _ _ (put-start _ _ _ _ _ _ _ _ (c .before .before .before .before .before .before .before .before .before .before .before .before .before .before .before .before .before .before .before .before .before .pre .1) _ _ _ (c .before .before .before .before .before .before .before .before .before .before .before .before .before .before .before .put-head .ensures))) in omega (arith, l .less, l .high, l .short))
-    (λ c. put-less _ _ _ _ _ _ _ _ _ _ _ _ _ _ _ _ (c .before .before .before .before .before .before .before .before .before .before .loop .inv .2 _ _ (put-start _ _ _ _ _ _ _ _ (c .before .before .before .before .before .before .before .before .before .before .before .before .before .before .before .before .before .before .before .before .before .pre .1) _ _ _ (c .before .before .before .before .before .before .before .before .before .before .before .before .before .before .before .put-head .ensures))) (search needs) (search needs) _ _ _ (c .before .before .before .before .put-field .ensures))
-    (λ c. (search needs, search needs, λ O W x. put-step _ _ _ _ _ _ _ _ _ _ _ _ _ _ _ _ (c .before .before .before .before .before .before .before .before .before .before .loop .inv .2 O W x) (search needs) (search needs) _ _ _ (c .before .before .before .before .put-field .ensures)))
+    (λ c. put-close _ _ _ _ _ _ _ _ _ _ _ _ _ _ _ _ (c .before .before .before .before .before .before .before .loop .inv .2 _ _
+    (put-start _ _ _ _ _ _ _ _ (c .before .before .before .before .before .before .before .before .before .before .before .before .before .before
+    .before .before .before .before .pre .1) _ _ _ (c .before .before .before .before .before .before .before .before .before .before .before .before
+    .put-head .ensures))) (search needs) (search needs) _ (c .before .before .put-count .ensures) _ refl refl refl)
+    (λ c κs. (
+      search needs,
+      put-item _ _ _ _ _ _ _ _ _ _ _ _ _ _ _ _ (c .before .before .before .before .before .loop .inv .2 _ _
+          (put-start _ _ _ _ _ _ _ _ (c .before .before .before .before .before .before .before .before .before .before .before .before .before .before
+          .before .before .pre .1) _ _ _ (c .before .before .before .before .before .before .before .before .before .before .put-head .ensures)))
+          (search needs) (search needs),
+    ))
+    (λ c. let l = (c .before .before .before .before .before .before .before .before .before .before .loop .inv .2 _ _
+    (put-start _ _ _ _ _ _ _ _ (c .before .before .before .before .before .before .before .before .before .before .before .before .before .before
+    .before .before .before .before .before .before .before .pre .1) _ _ _ (c .before .before .before .before .before .before .before .before .before
+    .before .before .before .before .before .before .put-head .ensures))) in omega (arith, l .less, l .high, l .short))
+    (λ c. put-less _ _ _ _ _ _ _ _ _ _ _ _ _ _ _ _ (c .before .before .before .before .before .before .before .before .before .before .loop .inv .2 _ _
+    (put-start _ _ _ _ _ _ _ _ (c .before .before .before .before .before .before .before .before .before .before .before .before .before .before
+    .before .before .before .before .before .before .before .pre .1) _ _ _ (c .before .before .before .before .before .before .before .before .before
+    .before .before .before .before .before .before .put-head .ensures))) (search needs) (search needs) _ _ _
+    (c .before .before .before .before .put-field .ensures))
+    (λ c. (
+      search needs,
+      search needs,
+      λ O W x. put-step _ _ _ _ _ _ _ _ _ _ _ _ _ _ _ _ (c .before .before .before .before .before .before .before .before
+          .before .before .loop .inv .2 O W x) (search needs) (search needs) _ _ _ (c .before .before .before .before .put-field .ensures),
+    ))
     (λ c. search needs)
     (λ c. search needs)
-    (λ c. put-stop _ _ _ _ _ _ _ _ _ _ _ _ _ _ _ _ (c .before .loop .inv .2 _ _ (put-start _ _ _ _ _ _ _ _ (c .before .before .before .before .before .before .before .before .before .before .before .before .pre .1) _ _ _ (c .before .before .before .before .before .before .put-head .ensures))) _ _ _ (search needs)))
+    (λ c. put-stop _ _ _ _ _ _ _ _ _ _ _ _ _ _ _ _ (c .before .loop .inv .2 _ _ (put-start _ _ _ _ _ _ _ _
+    (c .before .before .before .before .before .before .before .before .before .before .before .before .pre .1) _ _ _
+    (c .before .before .before .before .before .before .put-head .ensures))) _ _ _ (search needs)))
     λ t. put-field-lts.spec (
       start-of-reads.Asked,
       start-of-reads.Learnt,
@@ -110,18 +150,76 @@ pub +put-contents+put-field-spec : {M : Type 1} → statement M
     (λ c κs. search needs)
     (λ c κs. search needs)
     (λ c. omega (arith, put-low _ _ _ _ _ _ _ _ _ (c .before .before .before .before .before .before .before .before .pre .1)))
-    (λ c κs. (put-after _ _ _ _ _ _ _ _ _ (c .before .before .before .before .before .before .before .before .before .pre .1) _ (c .before .before .before .before .start-of .ensures) _ (c .before .before .number-at .ensures) _ (c .before .final-id .ensures), put-inside _ _ _ _ _ _ _ _ _ (c .before .before .before .before .before .before .before .before .before .pre .1) _ (c .before .before .before .before .start-of .ensures), put-front-room _ _ _ _ _ _ _ _ _ (c .before .before .before .before .before .before .before .before .before .pre .1) _ (c .before .before .before .before .start-of .ensures) _ (c .before .before .number-at .ensures) _ (c .before .final-id .ensures), put-id _ _ _ _ _ _ _ _ _ (c .before .before .before .before .before .before .before .before .before .pre .1) _ (c .before .before .before .before .start-of .ensures) _ (c .before .before .number-at .ensures) _ (c .before .final-id .ensures)))
-    (λ c. put-deep _ _ _ _ _ _ _ _ _ (c .before .before .before .before .before .before .before .before .before .before .before .before .before .before .before .pre .1))
-    (λ c κs. (omega (arith, put-deep _ _ _ _ _ _ _ _ _ (c .before .before .before .before .before .before .before .before .before .before .before .before .before .before .before .pre .1)), put-object _ _ _ _ _ _ _ _ _ (c .before .before .before .before .before .before .before .before .before .before .before .before .before .before .before .pre .1) _ (c .before .before .before .before .before .before .before .before .before .before .start-of .ensures) _ (c .before .before .before .before .before .before .before .before .number-at .ensures) _ (c .before .before .before .before .before .before .before .final-id .ensures) _ _ (c .before .before .before .before .before .put-front .ensures .0) (c .before .before .before .before .before .put-front .ensures .1) (c .before .before .if1 .taken) _ refl))
+    (λ c κs. (
+      put-after _ _ _ _ _ _ _ _ _ (c .before .before .before .before .before .before .before .before .before .pre .1) _
+          (c .before .before .before .before .start-of .ensures) _ (c .before .before .number-at .ensures) _ (c .before .final-id .ensures),
+      put-inside _ _ _
+          _ _ _ _ _ _ (c .before .before .before .before .before .before .before .before .before .pre .1) _
+          (c .before .before .before .before .start-of .ensures),
+      put-front-room _ _ _ _ _ _ _ _ _ (c .before .before .before .before .before .before .before
+          .before .before .pre .1) _ (c .before .before .before .before .start-of .ensures) _ (c .before .before .number-at .ensures) _
+          (c .before .final-id .ensures),
+      put-id _ _ _ _ _ _ _ _ _ (c .before .before .before .before .before .before .before .before .before .pre .1) _
+          (c .before .before .before .before .start-of .ensures) _ (c .before .before .number-at .ensures) _ (c .before .final-id .ensures),
+    ))
+    (λ c. put-deep _ _ _ _ _ _ _ _ _ (c .before .before .before .before .before .before .before .before .before .before .before .before .before .before
+    .before .pre .1))
+    (λ c κs. (
+      omega (
+        arith,
+        put-deep _ _ _ _ _ _ _ _ _ (c .before .before .before .before .before .before .before .before .before .before .before .before
+            .before .before .before .pre .1),
+      ),
+      put-object _ _ _ _ _ _ _ _ _ (c .before .before .before .before .before .before .before .before .before .before
+          .before .before .before .before .before .pre .1) _ (c .before .before .before .before .before .before .before .before .before .before .start-of
+          .ensures) _ (c .before .before .before .before .before .before .before .before .number-at .ensures) _
+          (c .before .before .before .before .before .before .before .final-id .ensures) _ _ (c .before .before .before .before .before .put-front .ensures
+          .0) (c .before .before .before .before .before .put-front .ensures .1) (c .before .before .if1 .taken) _ refl,
+    ))
     (λ c. search needs)
     (λ c. search needs)
-    (λ c. put-object-made _ _ _ _ _ _ _ _ _ (c .before .before .before .before .before .before .before .before .before .before .before .before .before .before .before .before .before .before .before .before .pre .1) _ (c .before .before .before .before .before .before .before .before .before .before .before .before .before .before .before .start-of .ensures) _ (c .before .before .before .before .before .before .before .before .before .before .before .before .before .number-at .ensures) _ (c .before .before .before .before .before .before .before .before .before .before .before .before .final-id .ensures) _ _ (c .before .before .before .before .before .before .before .before .before .before .put-front .ensures .0) (c .before .before .before .before .before .before .before .before .before .before .put-front .ensures .1) (c .before .before .before .before .before .before .before .if1 .taken) _ _ _ (c .before .before .before .before .put-contents .ensures))
-    (λ c. put-deep _ _ _ _ _ _ _ _ _ (c .before .before .before .before .before .before .before .before .before .before .before .before .before .before .before .before .pre .1))
-    (λ c κs. (omega (arith, put-deep _ _ _ _ _ _ _ _ _ (c .before .before .before .before .before .before .before .before .before .before .before .before .before .before .before .before .pre .1)), put-array _ _ _ _ _ _ _ _ _ (c .before .before .before .before .before .before .before .before .before .before .before .before .before .before .before .before .pre .1) _ (c .before .before .before .before .before .before .before .before .before .before .before .start-of .ensures) _ (c .before .before .before .before .before .before .before .before .before .number-at .ensures) _ (c .before .before .before .before .before .before .before .before .final-id .ensures) _ _ (c .before .before .before .before .before .before .put-front .ensures .0) (c .before .before .before .before .before .before .put-front .ensures .1) (c .before .before .if2 .taken) _ refl))
+    (λ c. put-object-made _ _ _ _ _ _ _ _ _ (c .before .before .before .before .before .before .before .before .before .before .before .before .before
+    .before .before .before .before .before .before .before .pre .1) _ (c .before .before .before .before .before .before .before .before .before
+    .before .before .before .before .before .before .start-of .ensures) _ (c .before .before .before .before .before .before .before .before .before
+    .before .before .before .before .number-at .ensures) _ (c .before .before .before .before .before .before .before .before .before .before .before
+    .before .final-id .ensures) _ _ (c .before .before .before .before .before .before .before .before .before .before .put-front .ensures .0)
+    (c .before .before .before .before .before .before .before .before .before .before .put-front .ensures .1)
+    (c .before .before .before .before .before .before .before .if1 .taken) _ _ _ (c .before .before .before .before .put-contents .ensures))
+    (λ c. put-deep _ _ _ _ _ _ _ _ _ (c .before .before .before .before .before .before .before .before .before .before .before .before .before .before
+    .before .before .pre .1))
+    (λ c κs. (
+      omega (
+        arith,
+        put-deep _ _ _ _ _ _ _ _ _ (c .before .before .before .before .before .before .before .before .before .before .before .before
+            .before .before .before .before .pre .1),
+      ),
+      put-array _ _ _ _ _ _ _ _ _ (c .before .before .before .before .before .before .before .before .before
+          .before .before .before .before .before .before .before .pre .1) _ (c .before .before .before .before .before .before .before .before .before
+          .before .before .start-of .ensures) _ (c .before .before .before .before .before .before .before .before .before .number-at .ensures) _
+          (c .before .before .before .before .before .before .before .before .final-id .ensures) _ _
+          (c .before .before .before .before .before .before .put-front .ensures .0) (c .before .before .before .before .before .before .put-front .ensures
+          .1) (c .before .before .if2 .taken) _ refl,
+    ))
     (λ c. search needs)
     (λ c. search needs)
-    (λ c. put-array-made _ _ _ _ _ _ _ _ _ (c .before .before .before .before .before .before .before .before .before .before .before .before .before .before .before .before .before .before .before .before .before .pre .1) _ (c .before .before .before .before .before .before .before .before .before .before .before .before .before .before .before .before .start-of .ensures) _ (c .before .before .before .before .before .before .before .before .before .before .before .before .before .before .number-at .ensures) _ (c .before .before .before .before .before .before .before .before .before .before .before .before .before .final-id .ensures) _ _ (c .before .before .before .before .before .before .before .before .before .before .before .put-front .ensures .0) (c .before .before .before .before .before .before .before .before .before .before .before .put-front .ensures .1) (c .before .before .before .before .before .before .before .if2 .taken) _ _ _ (c .before .before .before .before .put-contents2 .ensures))
-    (λ c κs. put-leaf-ready _ _ _ _ _ _ _ _ _ (c .before .before .before .before .before .before .before .before .before .before .before .before .before .before .before .pre .1) _ (c .before .before .before .before .before .before .before .before .before .before .start-of .ensures) _ (c .before .before .before .before .before .before .before .before .number-at .ensures) _ (c .before .before .before .before .before .before .before .final-id .ensures) _ _ (c .before .before .before .before .before .put-front .ensures .0) (c .before .before .before .before .before .put-front .ensures .1) (c .before .before .if1 .left) (c .before .if2 .left))
+    (λ c. put-array-made _ _ _ _ _ _ _ _ _ (c .before .before .before .before .before .before .before .before .before .before .before .before .before
+    .before .before .before .before .before .before .before .before .pre .1) _ (c .before .before .before .before .before .before .before .before
+    .before .before .before .before .before .before .before .before .start-of .ensures) _ (c .before .before .before .before .before .before .before
+    .before .before .before .before .before .before .before .number-at .ensures) _ (c .before .before .before .before .before .before .before .before
+    .before .before .before .before .before .final-id .ensures) _ _ (c .before .before .before .before .before .before .before .before .before .before
+    .before .put-front .ensures .0) (c .before .before .before .before .before .before .before .before .before .before .before .put-front .ensures .1)
+    (c .before .before .before .before .before .before .before .if2 .taken) _ _ _ (c .before .before .before .before .put-contents2 .ensures))
+    (λ c κs. put-leaf-ready _ _ _ _ _ _ _ _ _ (c .before .before .before .before .before .before .before .before .before .before .before .before .before
+    .before .before .pre .1) _ (c .before .before .before .before .before .before .before .before .before .before .start-of .ensures) _
+    (c .before .before .before .before .before .before .before .before .number-at .ensures) _
+    (c .before .before .before .before .before .before .before .final-id .ensures) _ _ (c .before .before .before .before .before .put-front .ensures
+    .0) (c .before .before .before .before .before .put-front .ensures .1) (c .before .before .if1 .left) (c .before .if2 .left))
     (λ c. search needs)
     (λ c. search needs)
-    (λ c. put-leaf-made _ _ _ _ _ _ _ _ _ (c .before .before .before .before .before .before .before .before .before .before .before .before .before .before .before .before .before .before .pre .1) _ (c .before .before .before .before .before .before .before .before .before .before .before .before .before .start-of .ensures) _ (c .before .before .before .before .before .before .before .before .before .before .before .number-at .ensures) _ (c .before .before .before .before .before .before .before .before .before .before .final-id .ensures) _ _ (c .before .before .before .before .before .before .before .before .put-front .ensures .0) (c .before .before .before .before .before .before .before .before .put-front .ensures .1) (c .before .before .before .before .before .if1 .left) (c .before .before .before .before .if2 .left) _ _ (c .before .before .put-leaf .ensures))
+    (λ c. put-leaf-made _ _ _ _ _ _ _ _ _ (c .before .before .before .before .before .before .before .before .before .before .before .before .before .before
+    .before .before .before .before .pre .1) _ (c .before .before .before .before .before .before .before .before .before .before .before .before
+    .before .start-of .ensures) _ (c .before .before .before .before .before .before .before .before .before .before .before .number-at .ensures) _
+    (c .before .before .before .before .before .before .before .before .before .before .final-id .ensures) _ _
+    (c .before .before .before .before .before .before .before .before .put-front .ensures .0)
+    (c .before .before .before .before .before .before .before .before .put-front .ensures .1) (c .before .before .before .before .before .if1 .left)
+    (c .before .before .before .before .if2 .left) _ _ (c .before .before .put-leaf .ensures))

@@ -22,13 +22,28 @@ put-head-spec =
     (λ c κs. search laws)
     (λ c κs. search laws)
     (λ c κs. search laws)
-    (λ c. omega (arith, open-e _ _ _ _ _ _ (c .before .before .before .before .before .before .before .before .before .before .before .before .pre) _ _ _ _ _ _ (c .before .before .before .before .before .before .size-in2 .ensures) (c .before .before .before .before .before .whole .ensures .0) (c .before .before .before .before .put-number .ensures .0) (c .before .width-in .ensures) (c .whole2 .ensures .0) (c .before .before .before .before .put-number .ensures .1)))
+    (λ c. omega (
+      arith,
+      open-e _ _ _ _ _ _ (c .before .before .before .before .before .before .before .before .before .before .before .before .pre) _ _ _ _
+          _ _ (c .before .before .before .before .before .before .size-in2 .ensures) (c .before .before .before .before .before .whole .ensures .0)
+          (c .before .before .before .before .put-number .ensures .0) (c .before .width-in .ensures) (c .whole2 .ensures .0)
+          (c .before .before .before .before .put-number .ensures .1),
+    ))
     (λ c κs. search laws)
     (λ c κs. search laws)
     (λ c κs. search laws)
     (λ c. search laws)
     (λ c. search laws)
-    (λ c. omega (arith, open-at _ _ _ _ _ _ (c .before .before .before .before .before .before .before .before .before .before .before .before .before .before .before .before .pre) _ _ _ _ _ _ (c .before .before .before .before .before .before .before .before .before .before .size-in2 .ensures) (c .before .before .before .before .before .before .before .before .before .whole .ensures .0) (c .before .before .before .before .before .before .before .before .put-number .ensures .0) (c .before .before .before .before .before .width-in .ensures) (c .before .before .before .before .whole2 .ensures .0) (c .before .before .before .before .before .before .before .before .put-number .ensures .1) _ (c .before .before .before .is-uniform-in .ensures) (search needs)))
+    (λ c. omega (
+      arith,
+      open-at _ _ _ _ _ _ (c .before .before .before .before .before .before .before .before .before .before .before .before .before
+          .before .before .before .pre) _ _ _ _ _ _ (c .before .before .before .before .before .before .before .before .before .before .size-in2 .ensures)
+          (c .before .before .before .before .before .before .before .before .before .whole .ensures .0)
+          (c .before .before .before .before .before .before .before .before .put-number .ensures .0)
+          (c .before .before .before .before .before .width-in .ensures) (c .before .before .before .before .whole2 .ensures .0)
+          (c .before .before .before .before .before .before .before .before .put-number .ensures .1) _ (c .before .before .before .is-uniform-in .ensures)
+          (search needs),
+    ))
     (λ c. search laws)
     (λ c. search laws)
     (λ c. search laws)

@@ -16,6 +16,10 @@ put-leaf-spec =
     (λ c κs. search laws)
     (λ c κs. search laws)
     (λ c. search laws)
-    (λ c. omega (arith, plain-room _ _ _ _ _ (c .before .before .before .before .before .before .before .before .pre) (c .before .before .before .before .before .if1 .left) _ (c .before .before .before .before .end-at .ensures)))
+    (λ c. omega (
+      arith,
+      plain-room _ _ _ _ _ (c .before .before .before .before .before .before .before .before .pre)
+          (c .before .before .before .before .before .if1 .left) _ (c .before .before .before .before .end-at .ensures),
+    ))
     (λ c. search laws)
     (λ c. search laws))
