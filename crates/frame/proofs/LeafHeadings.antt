@@ -1,6 +1,6 @@
 -- The heading of a payload: of a leaf it is the leaf, and of a container it is none.
 use Prim.Native.Nat.{ℕ, zero, suc, _-_}
-use mathlib.Core.Path.{_≡_, refl}
+use mathlib.Core.Path.{_≡_, refl, ap, _∙_}
 use mathlib.Core.Bool.{Bool, true, false, cond}
 use mathlib.Core.List.{List, [], _∷_}
 use lib.ListN.{length, drop, take}
@@ -25,13 +25,18 @@ use Rattle.format.specs.Tree.{Leaf}
 use Rattle.format.specs.Payload.{Payload, leaf, fields, sharedFields, items, sharedItems, payload, Head, value, fieldsIn, itemsIn, sharedFieldsOf}
 use Rattle.format.specs.Payload.{readSharedFields, sharedItemsOf, readSharedItems, readFields, readItems, headBy, head}
 use Rattle.frames.specs.FramePieces.{IsLeaf}
-use Rattle.faults.specs.Noted.{noted}
+use Rattle.faults.specs.Noted.{noted, nothing}
 use Rattle.front.specs.Code.{answerOf}
 use Rattle.head.specs.Code.{headingOf, headAt}
 use Rattle.format.proofs.Lists.{append-nil}
 use Rattle.format.proofs.Local.{with-put}
 use Rattle.frame.specs.declared.LeafFrame.the-variants as L
 use Rattle.frame.specs.Pieces.{leafFrameOf}
+
+-- ---- read with no faults met before
+
+pub unfaulted : (k : Kind) (m : Modes) (g : Faults) (s : List ℕ) (r : Heading) → g ≡ nothing → r ≡ headAt k m g s → r ≡ headAt k m nothing s
+unfaulted k m g s r e h = h ∙ ap (λ f. headAt k m f s) e
 
 -- ---- a heading of a leaf is the leaf
 

@@ -1,6 +1,7 @@
 // One frame of the write list, by what stands behind a position of it: a kind, a name, a leaf. Positions in the answers count from there, or from
 // the front of the list where that is lent.
 use faults::Modes;
+use format::Class;
 use format::Flaw;
 use format::Kind;
 use format::Known;
@@ -10,7 +11,9 @@ use leaves::Heading;
 ghost use mathlib.Core.Path.{_≡_};
 ghost use Prim.Native.Nat.{_≤_};
 ghost use lib.ListN.{length, drop};
+ghost use Rattle.faults.specs.Noted.{nothing};
 ghost use Rattle.frames.specs.FramePieces.{writable};
+ghost use Rattle.head.specs.Code.{headAt};
 ghost use Rattle.frame.specs.Front.{frontAt};
 ghost use Rattle.frame.specs.Pieces.{allModes, noModes, nameOf, nameAt, nameEnd, leafFrameOf, leafFrameAt, leafEnd, bitsIn};
 
@@ -171,6 +174,20 @@ pub fn front_at(list: &[u8], at: usize, named: bool, left: u32) -> Frame
 
 // ---- a leaf
 
+// A payload up to its contents, with no faults met before. A leaf of most kinds goes straight to its reader: only what stands behind a size is met as an item.
+fn heading(part: &[u8], kind: Kind, modes: Modes) -> Heading
+    ensures { λ r. ⌜ r ≡ headAt kind modes nothing (now (part .entry)) ⌝ }
+{
+    match format::class_of(kind) {
+        Class::Fixed(size) => leaves::fixed(part, size, faults::no_faults()),
+        Class::Text => leaves::text_leaf(part, modes, faults::no_faults()),
+        Class::Positive => leaves::positive(part, modes, faults::no_faults()),
+        Class::Negative => leaves::negative(part, modes, faults::no_faults()),
+        Class::Wide => leaves::float64(part, modes, faults::no_faults()),
+        Class::Behind(inner) => head::head_of(part, kind, modes, faults::no_faults()),
+    }
+}
+
 // A leaf: where it ends; and its ID and how long its payload is as encoded.
 pub enum LeafFrame {
     Refused(Refusal),
@@ -181,7 +198,7 @@ pub enum LeafFrame {
 pub fn leaf_of(part: &[u8], kind: Kind) -> LeafFrame
     ensures { λ r. ⌜ r ≡ leafFrameOf kind (now (part .entry)) ⌝ }
 {
-    match head::head_of(part, kind, all_modes(), faults::no_faults()) {
+    match heading(part, kind, all_modes()) {
         Heading::Stop(stop) => LeafFrame::Refused(Refusal::BadFrame),
         Heading::Leaf { end, faults } => {
             if faults::has(faults, Flaw::Long) {
@@ -243,7 +260,7 @@ pub fn leaf_end(part: &[u8], b: u8) -> usize
 {
     match format::known_of(b) {
         Known::Unknown => 0,
-        Known::Is(kind) => match head::head_of(part, kind, no_modes(), faults::no_faults()) {
+        Known::Is(kind) => match heading(part, kind, no_modes()) {
             Heading::Stop(stop) => 0,
             Heading::Leaf { end, faults: _ } => end,
             Heading::Fields {

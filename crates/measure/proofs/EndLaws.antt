@@ -4,16 +4,17 @@ use native.Mathlib.Omega.{arith}
 use mathlib.Core.Path.{_≡_, refl, sym, ap, _∙_}
 use mathlib.Core.Bool.{Bool, true, false, cond}
 use mathlib.Core.Option.{some}
-use mathlib.Core.List.{List, []}
+use mathlib.Core.List.{List, [], _∷_}
 use lib.ListN.{length, take, drop, length-drop}
 use lib.Seq.{take-take, length-take-le}
 use lib.Dec.{ltb}
-use borrow.Author.Tests.{ltb-true, ltb-false}
+use borrow.Author.Tests.{ltb-true, ltb-false, le-ltb}
 use Rattle.frames.specs.declared.Refusal.the-variants.{NameUsed}
 use Rattle.frames.specs.WriteList.{readFrames}
 use Rattle.frames.specs.FramePieces.{contentsBy, containerOf}
 use Rattle.twins.specs.Own.{freely}
-use Rattle.entries.specs.Least.{least}
+use Rattle.entries.specs.Entry.{beginIn}
+use Rattle.entries.specs.Least.{isFirst, isTwin, leastOf, least}
 use Rattle.select.specs.declared.Source.the-variants as S
 use Rattle.select.specs.Source.{firstTwin}
 use Rattle.notes.specs.declared.Notes.{Notes}
@@ -42,57 +43,62 @@ noted-front s es t (Few m) n w l i = (rw (length-take-le n t i) l, take-take m n
 noted-front s es t (Rising y) n w l i = w
 noted-front s es t Many n w l i = w
 
+-- of fewer than two names none stands twice
+few-once : (s es : List ℕ) → length es < 2 → 16777216 ≤ least s es
+unfolding leastOf isTwin isFirst
+few-once s [] l = omega arith
+few-once s (e ∷ []) l = rw (le-ltb (beginIn e) (beginIn e) (omega arith)) (omega arith)
+few-once s (e ∷ (f ∷ es)) l = absurd (omega arith)
+
 -- ---- what the object comes to
 
-module _ (d : ℕ) (s : List ℕ) (at before : ℕ) (named : Bool) (k : ℕ) (v v′ : List ℕ) (m : Measured) (y : LooseAt d s at before named k v v′ m)
-    (l : at ≤ length s) (short : length s ≤ 65536) (t : List ℕ) (notes : Notes) (reach : ℕ) (w : NamesEnded d s at named t notes reach)
-    (r : Measured) (e : r ≡ endedBy named d (drop at s) at t notes reach m) where
+module _ (d : ℕ) (s : List ℕ) (at before k : ℕ) (v v′ : List ℕ) (m : Measured) (y : LooseAt d s at before true k v v′ m) (l : at ≤ length s)
+    (short : length s ≤ 65536) (t : List ℕ) (notes : Notes) (reach n : ℕ) (w : NamesEnded d s at t notes reach n) where
   part-short : length (drop at s) < 16777216
   part-short = rw (length-drop at s) (omega arith)
 
   -- nothing stands twice
-  same-all : named ≡ true → contentsBy true (readFrames d) (length (drop at s)) [] (drop at s) ≡ freely d (length (drop at s)) [] (drop at s)
-      → r ≡ m → ContentsAt d s at before named k v v′ r
+  same-all : contentsBy true (readFrames d) (length (drop at s)) [] (drop at s) ≡ freely d (length (drop at s)) [] (drop at s)
+      → ContentsAt d s at before true k v v′ m
   unfolding containerOf
-  same-all i h j = rw (j, i, h) (rw i at y)
+  same-all h = rw h y
 
-  twin-first : named ≡ true → (g : ℕ) → g ≡ least (drop at s) (w .es) → g < 16777216 → r ≡ M.Refused NameUsed (at + framePlace d (drop at s) g)
-      → ContentsAt d s at before named k v v′ r
-  unfolding containerOf
-  twin-first i g h q j =
-      let x = ended-twin d (drop at s) part-short reach (w .es) (w .ended i) (rw (← h) q) in
-      let z : length s - length (drop (framePlace d (drop at s) g) (drop at s)) ≡ at + framePlace d (drop at s) g =
-      back s at (framePlace d (drop at s) g) l (rw h (x .1)) in
-      rw (i, x .0, ← h, j) (record { answer = ap (M.Refused NameUsed) (sym z); work = refl })
+  pub names-few : n < 2 → ContentsAt d s at before true k v v′ m
+  names-few q = same-all (ended-clear d (drop at s) part-short reach (w .es) (w .ended) (few-once (drop at s) (w .es) (omega (arith, w .count))))
 
-  -- where the first twin begins
-  abbrev begins : ℕ
-  begins = twinBy d (drop at s) t notes reach
+  module _ (r : Measured) where
+    twin-first : (g : ℕ) → g ≡ least (drop at s) (w .es) → g < 16777216 → r ≡ M.Refused NameUsed (at + framePlace d (drop at s) g)
+        → ContentsAt d s at before true k v v′ r
+    unfolding containerOf
+    twin-first g h q j =
+        let x = ended-twin d (drop at s) part-short reach (w .es) (w .ended) (rw (← h) q) in
+        let z : length s - length (drop (framePlace d (drop at s) g) (drop at s)) ≡ at + framePlace d (drop at s) g =
+        back s at (framePlace d (drop at s) g) l (rw h (x .1)) in
+        rw (x .0, ← h, j) (record { answer = ap (M.Refused NameUsed) (sym z); work = refl })
 
-  least-is : named ≡ true → 0 < reach → begins ≡ least (drop at s) (w .es)
-  unfolding firstTwin
-  least-is i q =
-      let x = w .ended i .entered .some q in
-      let n = roomFor (length t) (heldIn notes) reach in
-      let o = room-all (length t) (heldIn notes) reach (noted-held (drop at s) (w .es) t notes (w .noted i)) in
-      let y = noted-front (drop at s) (w .es) t notes n (w .noted i) o (room-inside (length t) (heldIn notes) reach n refl) in
-      noted-told (S.Frames d (reach - 1)) (drop at s) (w .es) (take n t) notes y x ∙ (rw x)
+    -- where the first twin begins
+    abbrev begins : ℕ
+    begins = twinBy d (drop at s) t notes reach
 
-  pub names-settled : ContentsAt d s at before named k v v′ r
-  unfolding endedBy containerOf
-  names-settled = go named refl e
-    where
-      twin : named ≡ true → 0 < reach → (o : Bool) → ltb begins 16777216 ≡ o
-          → r ≡ cond o (M.Refused NameUsed (at + framePlace d (drop at s) begins)) m → ContentsAt d s at before named k v v′ r
-      twin i q true b j = twin-first i begins (least-is i q) (ltb-true begins 16777216 b) j
-      twin i q false b j = same-all i (ended-clear d (drop at s) part-short reach (w .es) (w .ended i) (rw (least-is i q) at (ltb-false begins 16777216 b))) j
+    least-is : 0 < reach → begins ≡ least (drop at s) (w .es)
+    unfolding firstTwin
+    least-is q =
+        let x = w .ended .entered .some q in
+        let n = roomFor (length t) (heldIn notes) reach in
+        let o = room-all (length t) (heldIn notes) reach (noted-held (drop at s) (w .es) t notes (w .noted)) in
+        let y = noted-front (drop at s) (w .es) t notes n (w .noted) o (room-inside (length t) (heldIn notes) reach n refl) in
+        noted-told (S.Frames d (reach - 1)) (drop at s) (w .es) (take n t) notes y x ∙ (rw x)
 
-      some : named ≡ true → (o : Bool) → ltb 0 reach ≡ o
-          → r ≡ cond o (twinMeasured d (drop at s) at begins m) m → ContentsAt d s at before named k v v′ r
-      some i true b j = twin i (ltb-true 0 reach b) (ltb begins 16777216) refl j
-      some i false b j = same-all i (ended-none d (drop at s) part-short reach (w .es) (w .ended i) (let q = ltb-false 0 reach b in omega arith)) j
+    pub names-settled : r ≡ endedBy d (drop at s) at t notes reach m → ContentsAt d s at before true k v v′ r
+    unfolding endedBy containerOf
+    names-settled e = some (ltb 0 reach) refl e
+      where
+        twin : 0 < reach → (o : Bool) → ltb begins 16777216 ≡ o
+            → r ≡ cond o (M.Refused NameUsed (at + framePlace d (drop at s) begins)) m → ContentsAt d s at before true k v v′ r
+        twin q true b j = twin-first begins (least-is q) (ltb-true begins 16777216 b) j
+        twin q false b j =
+            rw j (same-all (ended-clear d (drop at s) part-short reach (w .es) (w .ended) (rw (least-is q) at (ltb-false begins 16777216 b))))
 
-      go : (b : Bool) → named ≡ b → r ≡ cond b (cond (ltb 0 reach) (twinMeasured d (drop at s) at begins m) m) m
-          → ContentsAt d s at before named k v v′ r
-      go true i j = some i (ltb 0 reach) refl j
-      go false i j = rw (j, i) (rw i at y)
+        some : (o : Bool) → ltb 0 reach ≡ o → r ≡ cond o (twinMeasured d (drop at s) at begins m) m → ContentsAt d s at before true k v v′ r
+        some true b j = twin (ltb-true 0 reach b) (ltb begins 16777216) refl j
+        some false b j = rw j (same-all (ended-none d (drop at s) part-short reach (w .es) (w .ended) (let q = ltb-false 0 reach b in omega arith)))

@@ -37,6 +37,7 @@ use Rattle.frame.specs.declared.Frame.the-variants as F
 use Rattle.frame.specs.Front.{frontMet, frontBy, frontAt}
 use Rattle.measure.specs.Passes.{leafMeasured, LeafSmall, PayloadBy, FieldBy, FieldAt}
 use Rattle.measure.specs.Passes.{PayloadAt, ContentsAt, Lent}
+use Rattle.measure.proofs.SmallLaws.{Plain}
 
 -- ---- a frame up to its payload
 
@@ -186,19 +187,19 @@ contents-lent s at start kind k (l, i, good, lt) =
 
 module _ (d : ℕ) (s : List ℕ) (at start : ℕ) (kind : Kind) (k : ℕ) where
   module _ (before : ℕ) (eb : before ≡ start - (at + 1)) (w w′ : List ℕ) (m : Measured) (n : ℕ) (en : n ≡ id kind) where
-    pub payload-object : n ≡ 2 → (b : Bool) → b ≡ true → ContentsAt d s start before b k w w′ m → PayloadAt d s at start kind k w w′ m
-    payload-object i b ib c = rw (object-payload (readFrames d) (drop at s) kind (drop start s) (kind-object kind (sym en ∙ i)), ← eb) (rw ib at c)
+    pub payload-object : n ≡ 2 → ContentsAt d s start before true k w w′ m → PayloadAt d s at start kind k w w′ m
+    payload-object i c = rw (object-payload (readFrames d) (drop at s) kind (drop start s) (kind-object kind (sym en ∙ i)), ← eb) c
 
-    pub payload-array : n ≡ 4 → (b : Bool) → b ≡ false → ContentsAt d s start before b k w w′ m → PayloadAt d s at start kind k w w′ m
-    payload-array i b ib c = rw (array-payload (readFrames d) (drop at s) kind (drop start s) (kind-array kind (sym en ∙ i)), ← eb) (rw ib at c)
+    pub payload-array : n ≡ 4 → ContentsAt d s start before false k w w′ m → PayloadAt d s at start kind k w w′ m
+    payload-array i c = rw (array-payload (readFrames d) (drop at s) kind (drop start s) (kind-array kind (sym en ∙ i)), ← eb) c
 
-  module _ (asked : Asked s at start kind k) (x : LeafFrame) (ex : x ≡ leafFrameAt kind s start) (n : ℕ) (en : n ≡ id kind) (n2 : n ≡ 2 → ⊥) (n4 : n ≡ 4 → ⊥)
+  module _ (asked : Asked s at start kind k) (x : LeafFrame) (ex : x ≡ leafFrameAt kind s start) (plain : Plain kind)
       (before : ℕ) (eb : before ≡ start - (at + 1)) where
     lt : Lent s at k
     lt = asked .3
 
     il : IsLeaf (payload kind)
-    il = leaf-kind kind (asked .2) (λ z. n2 (en ∙ z)) (λ z. n4 (en ∙ z))
+    il = leaf-kind kind (asked .2) (plain .object) (plain .array)
 
     leaf-met : (p : List ℕ → Out Leaf) → payload kind ≡ leaf p → x ≡ leafMet (length s) (leafFound (drop start s) (p (drop start s)))
     unfolding leafFrameAt

@@ -5,7 +5,7 @@ use native.Mathlib.Numerals.{add-one}
 use mathlib.Core.Path.{_≡_, refl, sym, ap, _∙_}
 use mathlib.Core.Bool.{Bool}
 use mathlib.Core.List.{List, [], _∷_, _++_, append-assoc}
-use lib.ListN.{length, drop, getD, set, length-append, drop-of-length-le}
+use lib.ListN.{length, drop, getD, length-append, drop-of-length-le}
 use mir.Syntax.{w64}
 use mir.Val.{Fits}
 use borrow.Author.Tests.{ne-eqb}
@@ -27,7 +27,7 @@ use Rattle.frames.proofs.Used.{read-used}
 use Rattle.run.specs.Run.{shared, join, uniform}
 use Rattle.settle.specs.declared.Measured.{Measured}
 use Rattle.settle.specs.declared.Measured.the-variants as M
-use Rattle.measure.specs.Passes.{fieldMeasured, fieldWork, PayloadBy, FieldAt, Lent}
+use Rattle.measure.specs.Passes.{fieldMeasured, fieldWork, ClosedBy, PayloadBy, FieldAt, Lent}
 use Rattle.measure.proofs.LoopState.{loosely, onto, looseOf, LooseAt, packsIn, Loop}
 
 module _ (d : ℕ) (s : List ℕ) (at : ℕ) (named : Bool) (k : ℕ) (w₀ w : List ℕ) (p j n sum c : ℕ) (l : Loop d s at named k w₀ w p j n sum c) where
@@ -58,25 +58,26 @@ module _ (d : ℕ) (s : List ℕ) (at : ℕ) (named : Bool) (k : ℕ) (w₀ w : 
         go zero e = absurd (omega arith)
         go (suc n) e = f n e
 
-    pub loop-close : (before : ℕ) (w′ : List ℕ) (size v i z : ℕ) (u : Bool) → getD s p 0 ≡ 0 → size ≡ sizeBy named c n sum → v ≡ packed named c n size
-        → u ≡ uniform named c → i ≡ containerId named u → z ≡ length (encoded size) → w′ ≡ set w k v
-        → LooseAt d s at before named k w₀ w′ (M.Read (p + 1) i (before + (z + size)) j)
-    loop-close before w′ size v i z u e es ev eu ei ez ew =
+    pub loop-close : (before : ℕ) (w′ : List ℕ) (m : Measured) → getD s p 0 ≡ 0 → ClosedBy named c n sum p before k j w w′ m
+        → LooseAt d s at before named k w₀ w′ m
+    loop-close before w′ m e by =
         let a : loosely d named (l .fuel) (l .used) (drop p s) ≡ framed [] (drop (p + 1) s) =
         fuelled (λ f. loosely d named f (l .used) (drop p s) ≡ framed [] (drop (p + 1) s)) (λ f q. rw (rest s p h, e)) in
-        let b : size ≡ length (body named (kindOf d) (payloadOf d) (l .xs)) =
-        es ∙ rw (body-length (kindOf d) (payloadOf d) named (l .xs), ← l .is-c, ← l .is-n, ← l .is-sum) in
-        let y : length (nodePayload (kindOf d) (payloadOf d) (nodeOf named (l .xs))) ≡ z + size =
-        payload-length (kindOf d) (payloadOf d) named (l .xs) ∙ rw (← b, ez) in
-        let x : id (nodeKind (kindOf d) (nodeOf named (l .xs))) ≡ i = node-id (kindOf d) named (l .xs) ∙ rw (← l .is-c, ← eu, ei) in
+        let b : sizeBy named c n sum ≡ length (body named (kindOf d) (payloadOf d) (l .xs)) =
+        rw (body-length (kindOf d) (payloadOf d) named (l .xs), ← l .is-c, ← l .is-n, ← l .is-sum) in
+        let y : length (nodePayload (kindOf d) (payloadOf d) (nodeOf named (l .xs))) ≡ length (encoded (sizeBy named c n sum)) + sizeBy named c n sum =
+        payload-length (kindOf d) (payloadOf d) named (l .xs) ∙ rw (← b) in
+        let x : id (nodeKind (kindOf d) (nodeOf named (l .xs))) ≡ containerId named (uniform named c) =
+        node-id (kindOf d) named (l .xs) ∙ rw (← l .is-c) in
         let q = node-packs (kindOf d) (payloadOf d) (packsOf d) named (l .xs) in
-        let m : packed named (shared (ids (kindOf d) (l .xs))) (length (l .xs)) (length (body named (kindOf d) (payloadOf d) (l .xs))) ≡ v =
-        rw (← b, ← l .is-c, ← l .is-n, ev) in
-        let o : packsOf (suc d) (nodeOf named (l .xs)) ≡ v ∷ packsIn d (l .xs) = q ∙ ap (λ (t : ℕ). t ∷ packsIn d (l .xs)) m in
+        let v = packed named c n (sizeBy named c n sum) in
+        let g : packed named (shared (ids (kindOf d) (l .xs))) (length (l .xs)) (length (body named (kindOf d) (payloadOf d) (l .xs))) ≡ v =
+        rw (← b, ← l .is-c, ← l .is-n) in
+        let o : packsOf (suc d) (nodeOf named (l .xs)) ≡ v ∷ packsIn d (l .xs) = q ∙ ap (λ (t : ℕ). t ∷ packsIn d (l .xs)) g in
         let r : k + length (packsOf (suc d) (nodeOf named (l .xs))) ≡ j = rw o (omega (arith, l .is-j)) in
         rw (l .whole, a, append-nil (l .xs)) (record {
-          answer = rw (place s (p + 1) (omega arith), x, y, r);
-          work = ew ∙ rw (l .is-work, o, add-one k) (set-sets (packsIn d (l .xs)) w₀ k (suc k) v (omega arith));
+          answer = by .answer ∙ rw (place s (p + 1) (omega arith), x, y, r);
+          work = by .work ∙ rw (l .is-work, o, add-one k) (set-sets (packsIn d (l .xs)) w₀ k (suc k) v (omega arith));
         })
 
     module _ (m : Measured) (w′ : List ℕ) (z : getD s p 0 ≡ 0 → ⊥) (y : FieldAt d s p named j w w′ m) where

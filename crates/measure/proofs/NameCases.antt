@@ -26,13 +26,10 @@ use Rattle.measure.specs.Names.{notedBy, roomFor, twinBy, endedBy}
 lent-rest : (at : ℕ) (s : List ℕ) → take (length s - at) (drop at s) ≡ drop at s
 lent-rest at s = take-all (length s - at) (drop at s) (omega (arith, length-drop at s))
 
-module _ (s : List ℕ) (at : ℕ) (named : Bool) (t : List ℕ) (notes : Notes) (b e : ℕ) where
-  pub note-plain : named ≡ false → noting notes t ≡ notedBy named (drop at s) t notes (b - at) (e - at)
-  note-plain i = rw i
-
-  pub note-named : named ≡ true → (x : ℕ) → x ≡ entryOf (take (length s - at) (drop at s)) (b - at) (e - at) → (r : Notes) (t′ : List ℕ)
-      → noting r t′ ≡ added (take (length s - at) (drop at s)) t notes x → noting r t′ ≡ notedBy named (drop at s) t notes (b - at) (e - at)
-  note-named i x j r t′ h = rw (i, ← lent-rest at s, ← j) h
+pub note-is : (s : List ℕ) (at : ℕ) (t : List ℕ) (notes : Notes) (b e x : ℕ) → x ≡ entryOf (take (length s - at) (drop at s)) (b - at) (e - at)
+    → (r : Notes) (t′ : List ℕ) → noting r t′ ≡ added (take (length s - at) (drop at s)) t notes x
+    → noting r t′ ≡ notedBy (drop at s) t notes (b - at) (e - at)
+note-is s at t notes b e x j r t′ h = rw (← lent-rest at s, ← j) h
 
 -- a frame of the object stands in the list
 pub place-sum : (s : List ℕ) (at d g : ℕ) → at ≤ length s → (p : ℕ) → p ≡ framePlace d (take (length s - at) (drop at s)) g → at + p ≤ length s
@@ -40,34 +37,29 @@ place-sum s at d g l p q =
     let z : p ≡ framePlace d (drop at s) g = q ∙ ap (λ (u : List ℕ). framePlace d u g) (lent-rest at s) in
     omega (arith, place-inside d (drop at s) g, length-drop at s)
 
-module _ (s : List ℕ) (at : ℕ) (named : Bool) (d : ℕ) (t : List ℕ) (notes : Notes) (reach : ℕ) (m : Measured) where
-  pub ended-plain : named ≡ false → m ≡ endedBy named d (drop at s) at t notes reach m
+module _ (s : List ℕ) (at : ℕ) (d : ℕ) (t : List ℕ) (notes : Notes) (reach : ℕ) (m : Measured) where
+  pub ended-empty : reach ≡ 0 → m ≡ endedBy d (drop at s) at t notes reach m
   unfolding endedBy
-  ended-plain i = rw i
+  ended-empty j = rw (le-ltb 0 reach (omega arith))
 
-  module _ (i : named ≡ true) where
-    pub ended-empty : reach ≡ 0 → m ≡ endedBy named d (drop at s) at t notes reach m
+  module _ (nz : reach ≡ 0 → ⊥) (held : ℕ) (v : held ≡ heldIn notes) (room : ℕ) (u : room ≡ roomFor (length t) held reach) (g : ℕ) (t′ : List ℕ)
+      (h : _≡_ {A = Searched} (record { answer = g; table = t′ }) (told (S.Frames d (reach - 1)) (take (length s - at) (drop at s))
+      (take room t) notes)) where
+    answer-is : twinBy d (drop at s) t notes reach ≡ g
+    answer-is =
+        ap (λ (n : ℕ). told (S.Frames d (reach - 1)) (drop at s) (take n t) notes .answer) (sym (u ∙ ap (λ (n : ℕ). roomFor (length t) n reach) v))
+        ∙ (ap (λ (u : List ℕ). told (S.Frames d (reach - 1)) u (take room t) notes .answer) (sym (lent-rest at s)) ∙ ap (λ o. o .answer) (sym h))
+
+    pub ended-once : 16777216 ≤ g → m ≡ endedBy d (drop at s) at t notes reach m
     unfolding endedBy
-    ended-empty j = rw (i, le-ltb 0 reach (omega arith))
+    ended-once j = rw (lt-ltb 0 reach (omega (arith, nz)), answer-is, le-ltb g 16777216 j)
 
-    module _ (nz : reach ≡ 0 → ⊥) (held : ℕ) (v : held ≡ heldIn notes) (room : ℕ) (u : room ≡ roomFor (length t) held reach) (g : ℕ) (t′ : List ℕ)
-        (h : _≡_ {A = Searched} (record { answer = g; table = t′ }) (told (S.Frames d (reach - 1)) (take (length s - at) (drop at s))
-        (take room t) notes)) where
-      answer-is : twinBy d (drop at s) t notes reach ≡ g
-      answer-is =
-          ap (λ (n : ℕ). told (S.Frames d (reach - 1)) (drop at s) (take n t) notes .answer) (sym (u ∙ ap (λ (n : ℕ). roomFor (length t) n reach) v))
-          ∙ (ap (λ (u : List ℕ). told (S.Frames d (reach - 1)) u (take room t) notes .answer) (sym (lent-rest at s)) ∙ ap (λ o. o .answer) (sym h))
-
-      pub ended-once : 16777216 ≤ g → m ≡ endedBy named d (drop at s) at t notes reach m
-      unfolding endedBy
-      ended-once j = rw (i, lt-ltb 0 reach (omega (arith, nz)), answer-is, le-ltb g 16777216 j)
-
-      pub ended-twice : g < 16777216 → (p : ℕ) → p ≡ framePlace d (take (length s - at) (drop at s)) g
-          → M.Refused NameUsed (at + p) ≡ endedBy named d (drop at s) at t notes reach m
-      unfolding endedBy
-      ended-twice j p q =
-          let z : p ≡ framePlace d (drop at s) g = q ∙ ap (λ (u : List ℕ). framePlace d u g) (lent-rest at s) in
-          rw (i, lt-ltb 0 reach (omega (arith, nz)), answer-is, lt-ltb g 16777216 j, ← z)
+    pub ended-twice : g < 16777216 → (p : ℕ) → p ≡ framePlace d (take (length s - at) (drop at s)) g
+        → M.Refused NameUsed (at + p) ≡ endedBy d (drop at s) at t notes reach m
+    unfolding endedBy
+    ended-twice j p q =
+        let z : p ≡ framePlace d (drop at s) g = q ∙ ap (λ (u : List ℕ). framePlace d u g) (lent-rest at s) in
+        rw (lt-ltb 0 reach (omega (arith, nz)), answer-is, lt-ltb g 16777216 j, ← z)
 
 -- ---- how much of the table is lent
 

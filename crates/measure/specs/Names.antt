@@ -1,7 +1,7 @@
 -- What the code answers inside: of a name that is noted; and at an object's end, of a name that stands there twice. Nothing here
 -- has to be believed: no public contract cites it.
 use Prim.Native.Nat.{ℕ, _+_, _-_}
-use mathlib.Core.Bool.{Bool, cond}
+use mathlib.Core.Bool.{cond}
 use mathlib.Core.List.{List}
 use lib.ListN.{length, take}
 use lib.Dec.{ltb}
@@ -10,7 +10,7 @@ use Rattle.entries.specs.Entry.{entryOf}
 use Rattle.entries.specs.Least.{lesser}
 use Rattle.select.specs.declared.Source.the-variants as S
 use Rattle.notes.specs.declared.Notes.{Notes}
-use Rattle.notes.specs.Notes.{heldIn, Noting, noting, added, told}
+use Rattle.notes.specs.Notes.{heldIn, Noting, added, told}
 use Rattle.used.specs.Place.{framePlace}
 use Rattle.settle.specs.declared.Measured.{Measured}
 use Rattle.settle.specs.declared.Measured.the-variants as M
@@ -18,8 +18,8 @@ use Rattle.settle.specs.declared.Measured.the-variants as M
 -- ---- the names of the object whose frames stand in the part s
 
 -- one that stands from b to e
-abbrev pub notedBy : Bool → List ℕ → List ℕ → Notes → ℕ → ℕ → Noting
-notedBy named s t notes b e = cond named (added s t notes (entryOf s b e)) (noting notes t)
+abbrev pub notedBy : List ℕ → List ℕ → Notes → ℕ → ℕ → Noting
+notedBy s t notes b e = added s t notes (entryOf s b e)
 
 -- a twin that begins at g is refused; 16777216 if there is none
 abbrev pub twinMeasured : ℕ → List ℕ → ℕ → ℕ → Measured → Measured
@@ -34,5 +34,5 @@ abbrev pub twinBy : ℕ → List ℕ → List ℕ → Notes → ℕ → ℕ
 twinBy d s t notes reach = told (S.Frames d (reach - 1)) s (take (roomFor (length t) (heldIn notes) reach) t) notes .answer
 
 -- the names of the frames that begin before `reach` were noted
-unfoldable pub endedBy : Bool → ℕ → List ℕ → ℕ → List ℕ → Notes → ℕ → Measured → Measured
-endedBy named d s at t notes reach m = cond named (cond (ltb 0 reach) (twinMeasured d s at (twinBy d s t notes reach) m) m) m
+unfoldable pub endedBy : ℕ → List ℕ → ℕ → List ℕ → Notes → ℕ → Measured → Measured
+endedBy d s at t notes reach m = cond (ltb 0 reach) (twinMeasured d s at (twinBy d s t notes reach) m) m

@@ -1,11 +1,13 @@
 -- What the first pass answers, of the tree that the list describes.
 use Prim.Native.Nat.{ℕ, suc, _+_, _-_, _≤_}
 use mathlib.Core.Path.{_≡_}
-use mathlib.Core.Bool.{Bool}
+use mathlib.Core.Bool.{Bool, true, false, cond}
 use mathlib.Core.List.{List, []}
-use lib.ListN.{length, drop}
+use lib.ListN.{length, drop, set}
+use lib.Dec.{eqb}
 use lib.Seq.{sets}
 use Rattle.number.specs.BigEndian.{Bytes}
+use Rattle.number.specs.VarUInt.{encoded}
 use Rattle.format.specs.declared.Kind.{Kind}
 use Rattle.format.specs.Kinds.{id}
 use Rattle.format.specs.Payload.{payload}
@@ -13,11 +15,16 @@ use Rattle.format.specs.Tree.{Tree}
 use Rattle.format.specs.Encoding.{kindOf, payloadOf}
 use Rattle.frames.specs.WriteList.{Frames, refused, framed, framePayload, readFrames}
 use Rattle.frame.specs.declared.LeafFrame.{LeafFrame}
-use Rattle.frames.specs.Container.{namePart, packsOf}
+use Rattle.frames.specs.Container.{containerId, sizeBy, packed, namePart, packsOf}
+use Rattle.run.specs.Run.{uniform}
 use Rattle.frames.specs.FramePieces.{modeOf, containerOf}
 use Rattle.settle.specs.declared.Measured.{Measured}
 use Rattle.frame.specs.declared.LeafFrame.the-variants as L
 use Rattle.settle.specs.declared.Measured.the-variants as M
+
+-- a kind of the write list that has no contents
+abbrev pub isLeaf : Kind → Bool
+isLeaf k = cond (eqb (id k) 2) false (cond (eqb (id k) 4) false true)
 
 -- a leaf, with what stands before it
 abbrev pub leafMeasured : ℕ → ℕ → ℕ → LeafFrame → Measured
@@ -69,6 +76,11 @@ pub record Lent (s : List ℕ) (at k : ℕ) : Type 0 where
   pub bytes : Bytes s
   pub short : length s ≤ 65536
   pub few-numbers : k ≤ at
+
+-- a container that is closed at `at`, of whose n fields or items c is shared, and `sum` the size of all: the k-th number is its own
+pub record ClosedBy (named : Bool) (c n sum at before k j : ℕ) (w w′ : List ℕ) (m : Measured) : Type 0 where
+  pub answer : m ≡ M.Read (at + 1) (containerId named (uniform named c)) (before + (length (encoded (sizeBy named c n sum)) + sizeBy named c n sum)) j
+  pub work : w′ ≡ set w k (packed named c n (sizeBy named c n sum))
 
 -- the sum of a leaf and what stands before it fits
 abbrev pub LeafSmall : LeafFrame → ℕ → Type 0

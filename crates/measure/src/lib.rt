@@ -17,34 +17,19 @@ ghost use Rattle.frames.specs.Container.{sizeBy, packed};
 ghost use Rattle.frames.specs.WriteList.{isWritable};
 ghost use Rattle.notes.specs.Notes.{noting};
 ghost use Rattle.measure.specs.Names.{notedBy, roomFor, endedBy};
-ghost use Rattle.measure.specs.Passes.{leafMeasured, LeafSmall, PayloadAt, FieldAt, ContentsAt, Lent};
+ghost use Rattle.measure.specs.Passes.{isLeaf, leafMeasured, LeafSmall, ClosedBy, PayloadAt, FieldAt, ContentsAt, Lent};
 ghost use Rattle.measure.specs.Settle.{measurement, settledWithin, settled};
 
 // ---- the names of an object. They are noted while its frames are read, and at its end the first frame is told whose name it has already
 
 // The name of a frame, which stands from one place of the list to another. The object's frames begin at `at`.
-fn note(
-    list: &[u8],
-    at: usize,
-    named: bool,
-    table: &mut [u64],
-    notes: Notes,
-    begin: usize,
-    end: usize,
-) -> Notes
+fn note(list: &[u8], at: usize, table: &mut [u64], notes: Notes, begin: usize, end: usize) -> Notes
     requires { ⌜ (at ≤ length (now list)) × (at ≤ begin) × (begin ≤ end) ⌝ }
-    ensures { λ r. ⌜ noting r (now (table .exit)) ≡ notedBy named (drop at (now (list .entry))) (now (table .entry)) notes (begin - at) (end - at) ⌝ }
+    ensures { λ r. ⌜ noting r (now (table .exit)) ≡ notedBy (drop at (now (list .entry))) (now (table .entry)) notes (begin - at) (end - at) ⌝ }
 {
-    if named {
-        let part = &list[at..];
-        return notes::add(
-            part,
-            table,
-            notes,
-            entries::entry(part, begin - at, end - at),
-        );
-    }
-    notes
+    let part = &list[at..];
+    let name = entries::entry(part, begin - at, end - at);
+    notes::add(part, table, notes, name)
 }
 
 // How much of a table the names of frames that begin before `reach` need: two numbers for each, which takes three bytes at least; and the notes.
@@ -61,7 +46,6 @@ fn room_for(numbers: usize, held: usize, reach: usize) -> usize
 fn ended(
     list: &[u8],
     at: usize,
-    named: bool,
     table: &mut [u64],
     notes: Notes,
     reach: usize,
@@ -69,21 +53,18 @@ fn ended(
     measured: Measured,
 ) -> Measured
     requires { ⌜ at ≤ length (now list) ⌝ }
-    ensures { λ r. ⌜ r ≡ endedBy named left (drop at (now (list .entry))) at (now (table .entry)) notes reach measured ⌝ }
+    ensures { λ r. ⌜ r ≡ endedBy left (drop at (now (list .entry))) at (now (table .entry)) notes reach measured ⌝ }
 {
-    if named {
-        if reach == 0 {
-            return measured;
-        }
-        let part = &list[at..];
-        let room = room_for(table.len(), notes::held(notes), reach);
-        let source = Source::Frames(left, reach - 1);
-        let twin = notes::first_twin(part, source, &mut table[..room], notes);
-        if twin < 16777216 {
-            let place = used::place_of(part, left, twin);
-            return Measured::Refused(Refusal::NameUsed, at + place);
-        }
+    if reach == 0 {
         return measured;
+    }
+    let part = &list[at..];
+    let room = room_for(table.len(), notes::held(notes), reach);
+    let source = Source::Frames(left, reach - 1);
+    let twin = notes::first_twin(part, source, &mut table[..room], notes);
+    if twin < 16777216 {
+        let place = used::place_of(part, left, twin);
+        return Measured::Refused(Refusal::NameUsed, at + place);
     }
     measured
 }
@@ -110,6 +91,45 @@ fn pack(named: bool, shared: u8, count: usize, size: usize) -> u32
     ensures { λ r. ⌜ r ≡ packed named shared count size ⌝ }
 {
     container::pack(named, shared, count as u32, size as u32) as u32
+}
+
+// A container closed at a place of the list: its work number is stored, the k-th. The name before it takes `before` bytes, and j is the next number.
+fn closed(
+    named: bool,
+    shared: u8,
+    count: usize,
+    sum: usize,
+    at: usize,
+    before: usize,
+    work: &mut [u32],
+    k: usize,
+    j: usize,
+) -> Measured
+    requires { ⌜ (count ≤ 65536) × (sum ≤ 655360) × (at ≤ 65536) × (before ≤ 65536) ⌝ }
+    ensures { λ r. ⌜ ClosedBy named shared count sum at before k j (now (work .entry)) (now (work .exit)) r ⌝ }
+{
+    let size = size_of(named, shared, count, sum);
+    container::store(work, k, pack(named, shared, count, size));
+    Measured::Read {
+        next: at + 1,
+        id: container::container_id(named, run::is_uniform(named, shared)),
+        size: before + (width(size) + size),
+        opened: j,
+    }
+}
+
+// Neither an object nor an array.
+fn is_leaf(kind: Kind) -> bool
+    ensures { λ r. ⌜ r ≡ isLeaf kind ⌝ }
+{
+    let id = format::id_of(kind);
+    if id == 2 {
+        return false;
+    }
+    if id == 4 {
+        return false;
+    }
+    true
 }
 
 // ---- the pass
@@ -147,27 +167,94 @@ fn measure_payload(
     let before = start - (at + 1);
     let id = format::id_of(kind);
     if id == 2 {
-        return measure_contents(list, start, before, true, table, work, k, left);
+        return measure_fields(list, start, before, table, work, k, left);
     }
     if id == 4 {
-        return measure_contents(list, start, before, false, table, work, k, left);
+        return measure_items(list, start, before, table, work, k, left);
     }
     measured_leaf(frame::leaf_at(list, start, kind), at, before, k)
 }
 
-// The fields of an object or the items of an array, up to the close. The name before it takes `before` bytes.
-fn measure_contents(
+// The items of an array, up to the close. The name before it takes `before` bytes. (Most items are leaves: these are measured here, and only what has
+// contents by a call with all that those need. So it is with fields.)
+fn measure_items(
     list: &[u8],
     at: usize,
     before: usize,
-    named: bool,
     table: &mut [u64],
     work: &mut [u32],
     k: usize,
     left: u32,
 ) -> Measured
     requires { ⌜ (at ≤ length (now list)) × (before ≤ at) × (k < at) × Lent (now list) at k ⌝ }
-    ensures { λ r. ⌜ ContentsAt left (now (list .entry)) at before named k (now (work .entry)) (now (work .exit)) r ⌝ }
+    ensures { λ r. ⌜ ContentsAt left (now (list .entry)) at before false k (now (work .entry)) (now (work .exit)) r ⌝ }
+{
+    let mut p = at;
+    let mut j = k + 1;
+    let mut count: usize = 0;
+    let mut sum: usize = 0;
+    let mut shared: u8 = 0;
+    while p < list.len() {
+        if list[p] == 0 {
+            return closed(false, shared, count, sum, p, before, work, k, j);
+        }
+        match frame::front_at(list, p, false, left) {
+            Frame::Refused(refusal) => {
+                return Measured::Refused(refusal, p);
+            }
+            Frame::Read {
+                kind,
+                begin: _,
+                start,
+            } => {
+                count += 1;
+                if is_leaf(kind) {
+                    match frame::leaf_at(list, start, kind) {
+                        LeafFrame::Refused(refusal) => {
+                            return Measured::Refused(refusal, p);
+                        }
+                        LeafFrame::Read { end, id, size } => {
+                            sum += start - (p + 1) + size;
+                            p = end;
+                            shared = run::join(shared, id);
+                        }
+                    }
+                } else {
+                    match measure_payload(list, p, start, kind, table, work, j, left - 1) {
+                        Measured::Refused(refusal, place) => {
+                            return Measured::Refused(refusal, place);
+                        }
+                        Measured::Read {
+                            next,
+                            id,
+                            size,
+                            opened,
+                        } => {
+                            p = next;
+                            j = opened;
+                            sum += size;
+                            shared = run::join(shared, id);
+                        }
+                    }
+                }
+            }
+        }
+    }
+    Measured::Refused(Refusal::ListEnds, p)
+}
+
+// The fields of an object, up to the close. Of fewer than two names none stands twice.
+fn measure_fields(
+    list: &[u8],
+    at: usize,
+    before: usize,
+    table: &mut [u64],
+    work: &mut [u32],
+    k: usize,
+    left: u32,
+) -> Measured
+    requires { ⌜ (at ≤ length (now list)) × (before ≤ at) × (k < at) × Lent (now list) at k ⌝ }
+    ensures { λ r. ⌜ ContentsAt left (now (list .entry)) at before true k (now (work .entry)) (now (work .exit)) r ⌝ }
 {
     let mut p = at;
     let mut j = k + 1;
@@ -178,56 +265,70 @@ fn measure_contents(
     let mut shared: u8 = 0;
     while p < list.len() {
         if list[p] == 0 {
-            let size = size_of(named, shared, count, sum);
-            container::store(work, k, pack(named, shared, count, size));
-            let closed = Measured::Read {
-                next: p + 1,
-                id: container::container_id(named, run::is_uniform(named, shared)),
-                size: before + (width(size) + size),
-                opened: j,
-            };
-            return ended(list, at, named, table, notes, reach, left, closed);
+            let done = closed(true, shared, count, sum, p, before, work, k, j);
+            if count < 2 {
+                return done;
+            }
+            return ended(list, at, table, notes, reach, left, done);
         }
-        match frame::front_at(list, p, named, left) {
+        match frame::front_at(list, p, true, left) {
             Frame::Refused(refusal) => {
                 let refused = Measured::Refused(refusal, p);
-                return ended(list, at, named, table, notes, reach, left, refused);
+                if count < 2 {
+                    return refused;
+                }
+                return ended(list, at, table, notes, reach, left, refused);
             }
             Frame::Read { kind, begin, start } => {
-                notes = note(list, at, named, table, notes, begin, start);
+                notes = note(list, at, table, notes, begin, start);
                 reach = p - at + 1;
-                let held = notes::held(notes);
-                match measure_payload(list, p, start, kind, &mut table[held..], work, j, left - 1) {
-                    Measured::Refused(refusal, place) => {
-                        let refused = Measured::Refused(refusal, place);
-                        return ended(list, at, named, table, notes, reach, left, refused);
+                count += 1;
+                if is_leaf(kind) {
+                    match frame::leaf_at(list, start, kind) {
+                        LeafFrame::Refused(refusal) => {
+                            let refused = Measured::Refused(refusal, p);
+                            return ended(list, at, table, notes, reach, left, refused);
+                        }
+                        LeafFrame::Read { end, id, size } => {
+                            sum += start - (p + 1) + size;
+                            p = end;
+                            shared = run::join(shared, id);
+                        }
                     }
-                    Measured::Read {
-                        next,
-                        id,
-                        size,
-                        opened,
-                    } => {
-                        p = next;
-                        j = opened;
-                        count += 1;
-                        sum += size;
-                        shared = run::join(shared, id);
+                } else {
+                    let held = notes::held(notes);
+                    match measure_payload(
+                        list,
+                        p,
+                        start,
+                        kind,
+                        &mut table[held..],
+                        work,
+                        j,
+                        left - 1,
+                    ) {
+                        Measured::Refused(refusal, place) => {
+                            let refused = Measured::Refused(refusal, place);
+                            return ended(list, at, table, notes, reach, left, refused);
+                        }
+                        Measured::Read {
+                            next,
+                            id,
+                            size,
+                            opened,
+                        } => {
+                            p = next;
+                            j = opened;
+                            sum += size;
+                            shared = run::join(shared, id);
+                        }
                     }
                 }
             }
         }
     }
-    ended(
-        list,
-        at,
-        named,
-        table,
-        notes,
-        reach,
-        left,
-        Measured::Refused(Refusal::ListEnds, p),
-    )
+    let refused = Measured::Refused(Refusal::ListEnds, p);
+    ended(list, at, table, notes, reach, left, refused)
 }
 
 // ---- the whole

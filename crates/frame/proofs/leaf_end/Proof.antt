@@ -14,7 +14,6 @@ leaf-end-spec =
     (λ c. search laws)
     (λ c κs. search laws)
     (λ c κs. search laws)
-    (λ c κs. search laws)
     (λ c. search laws)
     (λ c. search laws)
     (λ c. search laws)

@@ -11,7 +11,6 @@ leaf-of-spec =
     (tie.spec
     (λ c κs. search laws)
     (λ c κs. search laws)
-    (λ c κs. search laws)
     (λ c. search laws)
     (λ c. search laws)
     (λ c κs. search laws)

@@ -1,9 +1,9 @@
 use borrow.Author.Needs.{needs}
 use Rattle.measure.proofs.note.Statement.{statement}
 use Rattle.measure.proofs.note.Tie as tie
-use Rattle.measure.proofs.NameCases.{note-plain, note-named}
+use Rattle.measure.proofs.NameCases.{note-is}
 
-ruleset laws = (note-plain, note-named, needs)
+ruleset laws = (note-is, needs)
 
 pub note-spec : {M : Type 1} → statement M
 note-spec =
@@ -16,6 +16,5 @@ note-spec =
     (λ c. search laws)
     (λ c κs. search laws)
     (λ c κs. search laws)
-    (λ c. search laws)
     (λ c. search laws)
     (λ c. search laws))
