@@ -315,7 +315,7 @@ fn with_names(modes: u32, payload: &[u8], table: &mut [u64]) -> u32
 }
 
 // The mask ("The mask"): 0, or the first fault that stops, or the sum of the faults that do not. A longer payload is given a larger table. The largest holds
-// all names of an object but for one of more than 18,900 names, which a payload has room for only if most of them have two bytes or fewer.
+// more names than a payload has room for if all differ (21,931 at most), so there are passes only if the notes of the objects around take the rest of it.
 pub fn validate(modes: u32, payload: &[u8]) -> u32
     ensures { λ r. ⌜ r ≡ mask modes (now (payload .entry)) ⌝ }
 {
@@ -336,7 +336,7 @@ pub fn validate(modes: u32, payload: &[u8]) -> u32
             let mut table = [0u64; 6144];
             return with_names(modes, payload, &mut table);
         }
-        let mut table = [0u64; 19456];
+        let mut table = [0u64; 22016];
         return with_names(modes, payload, &mut table);
     }
     without_names(modes, payload)
