@@ -51,15 +51,14 @@ uint64_t ajuqvane_widen(uint32_t bits);
  *   512 (format) a string, a field name or a custom's name that is not UTF-8
  *   1024 (format) an object or array that has to be uniform and is not written so
  *   4096 (padding) bytes after the top field
- * With names asked, the time grows with the bytes, whatever names stand in them: names are noted and divided in a table of at most 19456
+ * With names asked, the time grows with the bytes, whatever names stand in them: names are noted and divided in a table of at most 22016
  * numbers on the stack, of which the call takes at most 192 KiB in all. */
 uint32_t ajuqvane_validate(uint32_t modes, const uint8_t *payload, size_t length);
 
 /* The same mask, with a table of `count` numbers that is lent in place of that on the stack. Any table serves, also an empty one; it holds zeros
  * afterwards, whatever it held before. It serves best if it has a number for each field of an object, and 16 more for each object around that one, for
  * every object: then names are looked at twice at most. With fewer, the names of a large object are passed over once for each part of them that the table
- * holds: 10,000 names in a table of 100 numbers are passed over some 400 times. Take this call where the stack is small, or for payloads with objects of
- * more than 18,900 fields. */
+ * holds: 10,000 names in a table of 100 numbers are passed over some 400 times. Take this call where the stack is small. */
 uint32_t ajuqvane_validate_with(uint32_t modes, const uint8_t *payload, size_t length, uint64_t *table, size_t count);
 
 /* The reading calls.

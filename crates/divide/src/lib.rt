@@ -132,7 +132,7 @@ fn narrow(part: &[u8], table: &mut [u64], at: usize) -> Rest
     ensures { λ r. ⌜ Narrows (now (part .entry)) at (now (table .entry)) (now (table .exit)) (r .best) (r .count) (r .at) ⌝ }
 {
     let n = table.len();
-    if n <= 16 {
+    if n <= 4 {
         return Rest {
             best: entries::first_twin(part, table, n),
             count: 0,

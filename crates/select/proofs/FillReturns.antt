@@ -3,17 +3,16 @@ use Prim.Native.Nat.{ℕ, zero, suc, _+_, _-_, _≤_, _<_}
 use native.Mathlib.Omega.{arith}
 use native.Mathlib.Numerals.{add-one}
 use mathlib.Core.Path.{_≡_, refl, sym, ap, _∙_}
-use mathlib.Core.Bool.{Bool, true, false, cond, _&&_}
-use mathlib.Core.List.{List, [], _∷_, _++_, append-nil, append-assoc}
-use lib.ListN.{length, take, drop, set, replicate, length-append, length-set, length-drop, length-replicate, drop-of-length-le}
-use lib.Seq.{take-suc-set, drop-set-lt, drop-drop, length-take-le}
+use mathlib.Core.Bool.{Bool, true, false}
+use mathlib.Core.List.{List, [], _∷_, _++_, append-nil}
+use lib.ListN.{length, take, drop, set, replicate, length-append, length-set, drop-of-length-le}
+use lib.Seq.{take-suc-set, take-all, take-at, drop-set-lt, drop-drop}
 use lib.Dec.{ltb, leb}
 use borrow.Author.Tests.{le-leb, lt-leb, le-ltb, ltb-true, ltb-false, leb-true, leb-false}
 use Rattle.number.proofs.Clash.{clash}
 use Rattle.names.specs.declared.Name.{Name}
 use Rattle.names.specs.declared.Name.the-variants as N
-use Rattle.entries.specs.Entry.{beginIn, lengthIn, markOf, entryOf}
-use Rattle.entries.specs.Least.{least}
+use Rattle.entries.specs.Entry.{entryOf}
 use Rattle.entries.proofs.EntryLaws.{entry-begins, entry-length, entry-crossed, entry-outside, entry-long}
 use Rattle.divide.specs.declared.Divided.{Divided}
 use Rattle.divide.specs.declared.Divided.the-variants as D
@@ -44,7 +43,7 @@ entry-fits s b e = go (ltb e b) (ltb (length s) e) (leb 16777216 (length s)) ref
         let n = leb-false 16777216 (length s) k in
         rw (entry-begins s b e l m n, entry-length s b e l m n) (le-leb (b + (e - b)) (length s) (omega arith))
 
-entries-fit : (o : Source) (s : List ℕ) (k a : ℕ) → allFit s (entriesFrom o s k a) ≡ true
+pub entries-fit : (o : Source) (s : List ℕ) (k a : ℕ) → allFit s (entriesFrom o s k a) ≡ true
 unfolding entriesFrom allFit
 entries-fit o s zero a = refl
 entries-fit o s (suc k) a = go (namedAt o a s) (λ n. entries-fit o s k n)
@@ -93,7 +92,11 @@ module _ (o : Source) (s t₀ t : List ℕ) (at n : ℕ) (w : Filling o s t₀ t
           let z : length (entriesOf o s) ≡ length (w .met) + 1 + length (entriesFrom o s (on .fuel) m) =
           ap length (on .whole) ∙ length-append (w .met ++ (entryOf s b f ∷ [])) (entriesFrom o s (on .fuel) m)
           ∙ ap (λ (y : ℕ). y + length (entriesFrom o s (on .fuel) m)) (length-append (w .met) (entryOf s b f ∷ [])) in
-          (omega (arith, z, w .number, w .kept), w .kept)
+          let q : n ≡ length t₀ = omega (arith, w .kept, w .room) in
+          (omega (arith, z, w .number, w .kept), w .kept, sym (take-all n t k) ∙ w .front ∙ sym (rw (← q) front-is))
+        where
+          front-is : take n (entriesOf o s) ≡ w .met
+          front-is = ap (take n) (w .walked .whole) ∙ take-at (w .met) (entriesFrom o s (w .walked .fuel) at) n (sym (w .number))
 
       pub fill-on : n < length t → (y : ℕ) → y ≡ entryOf s b f → Filling o s t₀ (set t n y) m (n + 1)
       fill-on k y i = record {
@@ -114,10 +117,16 @@ module _ (o : Source) (s t₀ t : List ℕ) (at n : ℕ) (w : Filling o s t₀ t
 pub cleared : (t t′ t″ : List ℕ) → length t′ ≡ length t → t″ ≡ replicate (length t′) 0 → t″ ≡ replicate (length t) 0
 cleared t t′ t″ l e = e ∙ ap (λ (n : ℕ). replicate n 0) l
 
-zeros-all : (t : List ℕ) → replicate (length t) 0 ≡ zeroed (length t) t
+pub zeros-all : (t : List ℕ) → replicate (length t) 0 ≡ zeroed (length t) t
 zeros-all t = sym (ap (λ (u : List ℕ). replicate (length t) 0 ++ u) (drop-of-length-le t {i = length t} (omega arith)) ∙ append-nil (replicate (length t) 0))
 
 module _ (o : Source) (s t t₁ : List ℕ) (x : Filled) (w : Fills (entriesOf o s) t t₁ x) where
+  pub filled-front : x ≡ F.More → t₁ ≡ take (length t₁) (entriesOf o s)
+  filled-front h = go (rw h at w)
+    where
+      go : Fills (entriesOf o s) t t₁ F.More → t₁ ≡ take (length t₁) (entriesOf o s)
+      go v = v .2 ∙ ap (λ (n : ℕ). take n (entriesOf o s)) (sym (v .1))
+
   pub passed : x ≡ F.More → (r : ℕ) → r ≡ firstTwin o s → (t₂ : List ℕ) → t₂ ≡ replicate (length t₁) 0
       → _≡_ {A = Searched} (record { answer = r; table = t₂ }) (searched o s t)
   unfolding searched

@@ -8,6 +8,8 @@ mod CutReturns
 mod SearchReturns
 mod FillReturns
 pub mod TwinLaws
+mod FrontLaws
+mod FrontReturns
 pub mod SourceLaws
 pub mod OneAnswer
 pub mod PinnedSelect

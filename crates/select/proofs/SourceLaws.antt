@@ -1,10 +1,10 @@
--- The entries of the names that stand in a part: their bytes are the names, and each begins behind the one before it. So a twin is told exactly if two names are equal.
+-- The entries of the names that stand in a part: their bytes are the names. So a twin is told exactly if two names are equal.
 use Prim.Native.Nat.{ℕ, zero, suc, _+_, _-_, _≤_, _<_}
 use native.Mathlib.Omega.{arith}
 use mathlib.Core.Path.{_≡_, refl, sym, ap, _∙_}
-use mathlib.Core.Bool.{Bool, true, false}
+use mathlib.Core.Bool.{true}
 use mathlib.Core.List.{List, [], _∷_, map}
-use lib.ListN.{length, take, drop, drop-of-length-le}
+use lib.ListN.{length, drop, drop-of-length-le}
 use lib.Dec.{ltb}
 use Rattle.text.specs.Equal.{equal}
 use Rattle.format.specs.declared.Form.{Form}
@@ -14,23 +14,21 @@ use Rattle.names.specs.declared.Name.{Name}
 use Rattle.names.specs.declared.Name.the-variants as N
 use Rattle.names.specs.FieldNames.{nameAt, namesAt, fieldNames, twinsAt}
 use Rattle.names.proofs.NameFound.{found-at, none-at}
-use Rattle.names.proofs.NameApart.{lead, name-apart}
-use Rattle.passing.specs.FrameNames as frames
-use Rattle.passing.proofs.NamesLaws as passing
-use Rattle.entries.specs.Entry.{beginIn, bytesIn, nameIn, entryOf}
-use Rattle.entries.specs.Among.{In, here, there}
-use Rattle.entries.proofs.EntryLaws.{entry-begins, entry-bytes, entry-same}
+use Rattle.entries.specs.Entry.{bytesIn, nameIn, entryOf}
+use Rattle.entries.specs.Among.{In}
+use Rattle.entries.proofs.EntryLaws.{entry-bytes, entry-same}
 use Rattle.entries.proofs.LeastLaws.{named-same}
 use Rattle.select.specs.declared.Source.{Source}
 use Rattle.select.specs.declared.Source.the-variants as S
 use Rattle.select.specs.Source.{namedAt, entriesAfter, entriesFrom, entriesOf, firstTwin}
 use Rattle.select.proofs.HalfLaws.{none-in, in-first}
-use Rattle.select.proofs.TwinLaws.{Ascends, ascends-less, Keyed, twins-are}
+use Rattle.select.proofs.WalkLaws.{leadOf, named-on}
+use Rattle.select.proofs.TwinLaws.{Keyed, twins-are}
+use Rattle.select.proofs.FrontLaws.{entries-ascend}
 
--- what is known of a source: `ns a` are the names from a on, and before a name stand l bytes at least
-pub record Sound (o : Source) (s : List ℕ) (l : ℕ) (ns : ℕ → List (List ℕ)) : Type 0 where
+-- what is known of a source: `ns a` are the names from a on
+pub record Sound (o : Source) (s : List ℕ) (ns : ℕ → List (List ℕ)) : Type 0 where
   pub none : (a : ℕ) → a ≤ length s → namedAt o a s ≡ N.Nothing → ns a ≡ []
-  pub on : (a b e n : ℕ) → a ≤ length s → namedAt o a s ≡ N.At b e n → (b ≤ e) × (e ≤ n) × (n ≤ length s) × (a < n) × (l + a ≤ b) × (b < l + n)
   pub more : (a b e n : ℕ) → a ≤ length s → namedAt o a s ≡ N.At b e n → ns a ≡ between b e s ∷ ns n
   pub ends : ns (length s) ≡ []
 
@@ -38,32 +36,29 @@ pub record Sound (o : Source) (s : List ℕ) (l : ℕ) (ns : ℕ → List (List 
 abbrev Good : List ℕ → ℕ → Type 0
 Good s x = (b : ℕ) × (e : ℕ) × (b ≤ e) × (e ≤ length s) × (x ≡ entryOf s b e)
 
-module _ (o : Source) (s : List ℕ) (l : ℕ) (ns : ℕ → List (List ℕ)) (w : Sound o s l ns) (short : length s < 16777216) where
+module _ (o : Source) (s : List ℕ) (ns : ℕ → List (List ℕ)) (w : Sound o s ns) (short : length s < 16777216) where
   record Whole (a : ℕ) (es : List ℕ) : Type 0 where
     pub names : map (λ e. bytesIn s e) es ≡ ns a
-    pub ascends : Ascends (l + a) es
     pub good : (x : ℕ) → In x es → Good s x
 
   entries-whole : (k a : ℕ) → a ≤ length s → length s ≤ a + k → Whole a (entriesFrom o s k a)
   unfolding entriesFrom
   entries-whole zero a i j =
       let z : a ≡ length s = omega arith in
-      record { names = sym (ap ns z ∙ w .ends); ascends = tt; good = λ x h. none-in x [] h refl }
+      record { names = sym (ap ns z ∙ w .ends); good = λ x h. none-in x [] h refl }
   entries-whole (suc k) a i j = go (namedAt o a s) refl (λ n c d. entries-whole k n c d)
     where
       go : (y : Name) → namedAt o a s ≡ y → ((n : ℕ) → n ≤ length s → length s ≤ n + k → Whole n (entriesFrom o s k n))
           → Whole a (entriesAfter s y (λ n. entriesFrom o s k n))
-      go N.Nothing h f = record { names = sym (w .none a i h); ascends = tt; good = λ x q. none-in x [] q refl }
+      go N.Nothing h f = record { names = sym (w .none a i h); good = λ x q. none-in x [] q refl }
       go (N.At b e n) h f =
-          let p = w .on a b e n i h in
-          let r = f n (p .2) (omega (arith, p .3)) in
-          let c : e ≤ length s = omega (arith, p .1, p .2) in
-          let g = entry-begins s b e (p .0) c short in
+          let p = named-on o s a b e n i h in
+          let r = f n (p .inside) (omega (arith, p .onward)) in
+          let c : e ≤ length s = omega (arith, p .before, p .inside) in
           record {
-            names = ap (λ (m : List ℕ). m ∷ map (λ x. bytesIn s x) (entriesFrom o s k n)) (entry-bytes s b e (p .0) c short)
+            names = ap (λ (m : List ℕ). m ∷ map (λ x. bytesIn s x) (entriesFrom o s k n)) (entry-bytes s b e (p .ordered) c short)
                 ∙ ap (λ (t : List (List ℕ)). between b e s ∷ t) (r .names) ∙ sym (w .more a b e n i h);
-            ascends = (rw g (p .4), rw g (ascends-less (l + n) (suc b) (entriesFrom o s k n) (omega (arith, p .5)) (r .ascends)));
-            good = λ x q. in-first x (entryOf s b e) (entriesFrom o s k n) q (λ d. (b, e, p .0, c, d)) (λ v. r .good x v);
+            good = λ x q. in-first x (entryOf s b e) (entriesFrom o s k n) q (λ d. (b, e, p .ordered, c, d)) (λ v. r .good x v);
           }
 
   keyed : (es : List ℕ) → ((x : ℕ) → In x es → Good s x) → Keyed s es
@@ -81,7 +76,7 @@ module _ (o : Source) (s : List ℕ) (l : ℕ) (ns : ℕ → List (List ℕ)) (w
   unfolding firstTwin
   twin-told =
       let r = entries-whole (length s) 0 (omega arith) (omega arith) in
-      twins-are s (l + 0) (entriesOf o s) (r .ascends) (keyed (entriesOf o s) (r .good)) ∙ ap twins (r .names)
+      twins-are s (leadOf o + 0) (entriesOf o s) (entries-ascend o s short (length s) 0 (omega arith)) (keyed (entriesOf o s) (r .good)) ∙ ap twins (r .names)
 
 -- ---- the fields of an object
 
@@ -89,18 +84,14 @@ no-fields : (f : Form) (s : List ℕ) → fieldNames f (drop (length s) s) ≡ [
 unfolding namesAt
 no-fields f s = rw (drop-of-length-le s {i = length s} (omega arith))
 
-fields-sound : (f : Form) (s : List ℕ) → Sound (S.Fields f) s (lead f) (λ a. fieldNames f (drop a s))
+fields-sound : (f : Form) (s : List ℕ) → Sound (S.Fields f) s (λ a. fieldNames f (drop a s))
 fields-sound f s =
     record {
       none = λ a i h. none-at f s a (nameAt f a s) refl h;
-      on = λ a b e n i h.
-          let w = found-at f s a (nameAt f a s) refl i b e n h in
-          let v = name-apart f s a b e n h in
-          (w .ordered, w .before, w .inside, w .onward, v .0, v .1);
       more = λ a b e n i h. found-at f s a (nameAt f a s) refl i b e n h .names;
       ends = no-fields f s;
     }
 
 pub twins-of-fields : (f : Form) (s : List ℕ) → length s < 16777216 → ltb (firstTwin (S.Fields f) s) 16777216 ≡ twinsAt f s
 unfolding twinsAt
-twins-of-fields f s h = twin-told (S.Fields f) s (lead f) (λ a. fieldNames f (drop a s)) (fields-sound f s) h
+twins-of-fields f s h = twin-told (S.Fields f) s (λ a. fieldNames f (drop a s)) (fields-sound f s) h

@@ -1,10 +1,9 @@
 -- A twin begins before 16777216 exactly if two of the names are equal.
-use Prim.Native.Nat.{ℕ, zero, suc, _+_, _≤_, _<_}
+use Prim.Native.Nat.{ℕ, suc, _≤_, _<_}
 use native.Mathlib.Omega.{arith}
 use mathlib.Core.Path.{_≡_, refl, sym, ap, _∙_}
 use mathlib.Core.Bool.{Bool, true, false, _||_}
 use mathlib.Core.List.{List, [], _∷_, map}
-use lib.ListN.{length, drop}
 use lib.Dec.{ltb}
 use borrow.Author.Tests.{lt-ltb, le-ltb, eq-eqb}
 use Rattle.number.proofs.Clash.{clash}
@@ -12,10 +11,10 @@ use Rattle.text.specs.Equal.{equal}
 use Rattle.format.specs.Kinds.{any}
 use Rattle.format.specs.Names.{twins}
 use Rattle.entries.specs.Entry.{beginIn, bytesIn, nameIn}
-use Rattle.entries.specs.Least.{isFirst, least}
+use Rattle.entries.specs.Least.{least}
 use Rattle.entries.specs.Among.{In, here, there}
 use Rattle.select.proofs.HalfLaws.{none-in, in-first}
-use Rattle.entries.proofs.LeastLaws.{begin-below, first-is, is-first, least-bound, least-over, least-pair}
+use Rattle.entries.proofs.LeastLaws.{begin-below, first-is, is-first, least-over, least-pair}
 
 -- ---- entries that begin one behind the other
 
@@ -27,7 +26,7 @@ pub ascends-less : (m n : ℕ) (es : List ℕ) → n ≤ m → Ascends m es → 
 ascends-less m n [] l h = tt
 ascends-less m n (e ∷ es) l h = (omega (arith, h .0), h .1)
 
-ascends-in : (m : ℕ) {e : ℕ} {es : List ℕ} → Ascends m es → In e es → m ≤ beginIn e
+pub ascends-in : (m : ℕ) {e : ℕ} {es : List ℕ} → Ascends m es → In e es → m ≤ beginIn e
 ascends-in m h here = h .0
 ascends-in m h (there i) = let w = ascends-in _ (h .1) i in omega (arith, h .0)
 

@@ -10,6 +10,7 @@ use lib.ListN.{length, drop-of-length-le}
 use Rattle.names.specs.declared.Name.{Name}
 use Rattle.names.specs.declared.Name.the-variants as N
 use Rattle.names.proofs.NameFound.{found-at, name-at-past}
+use Rattle.names.proofs.NameApart.{lead, name-apart}
 use Rattle.passing.specs.FrameNames as frames
 use Rattle.passing.proofs.NamesLaws as passing
 use Rattle.entries.specs.Entry.{entryOf}
@@ -21,12 +22,38 @@ use Rattle.select.specs.Source.{namedAt, entriesAfter, entriesFrom, entr
 
 -- ---- the name at a position
 
-named-on : (o : Source) (s : List ℕ) (a b e n : ℕ) → a ≤ length s → namedAt o a s ≡ N.At b e n → (a < n) × (n ≤ length s)
-named-on (S.Fields f) s a b e n l h = let w = found-at f s a (N.At b e n) (sym h) l b e n refl in (w .onward, w .inside)
+-- before a name stand so many bytes at least
+abbrev pub leadOf : Source → ℕ
+leadOf (S.Fields f) = lead f
+leadOf (S.Frames d p) = 1
+
+-- where it stands, and where the next one does
+pub record Named (o : Source) (s : List ℕ) (a b e n : ℕ) : Type 0 where
+  pub ordered : b ≤ e
+  pub before : e ≤ n
+  pub inside : n ≤ length s
+  pub onward : a < n
+  pub behind : leadOf o + a ≤ b
+  pub apart : b < leadOf o + n
+
+pub named-on : (o : Source) (s : List ℕ) (a b e n : ℕ) → a ≤ length s → namedAt o a s ≡ N.At b e n → Named o s a b e n
+named-on (S.Fields f) s a b e n l h =
+    let w = found-at f s a (N.At b e n) (sym h) l b e n refl in
+    let v = name-apart f s a b e n h in
+    record { ordered = w .ordered; before = w .before; inside = w .inside; onward = w .onward; behind = v .0; apart = v .1 }
 named-on (S.Frames d p) s a b e n l h = go (leb a p) h
   where
-    go : (t : Bool) → cond t (frames.nameAt d a s) N.Nothing ≡ N.At b e n → (a < n) × (n ≤ length s)
-    go true h = let w = passing.found-at d a s l b e n h in (w .onward, w .inside)
+    go : (t : Bool) → cond t (frames.nameAt d a s) N.Nothing ≡ N.At b e n → Named (S.Frames d p) s a b e n
+    go true h =
+        let w = passing.found-at d a s l b e n h in
+        record {
+          ordered = w .ordered;
+          before = w .before;
+          inside = w .inside;
+          onward = w .onward;
+          behind = omega (arith, w .begins);
+          apart = omega (arith, w .ordered, w .before);
+        }
     go false h = clash cc
 
 no-frame : (d : ℕ) (s : List ℕ) (a : ℕ) → length s ≤ a → frames.nameAt d a s ≡ N.Nothing
@@ -70,11 +97,11 @@ module _ (o : Source) (s ws : List ℕ) (at : ℕ) (w : Walked o s ws at) where
     walk-stops h = ended (sym e ∙ h)
 
     module _ (l : at < length s) (b f n : ℕ) (h : x ≡ N.At b f n) where
-      onward : (at < n) × (n ≤ length s)
+      onward : Named o s at b f n
       onward = named-on o s at b f n (omega arith) (sym e ∙ h)
 
       pub walk-less : length s - n < length s - at
-      walk-less = omega (arith, onward .0, onward .1)
+      walk-less = omega (arith, onward .onward, onward .inside)
 
       pub walk-on : Walked o s (ws ++ (entryOf s b f ∷ [])) n
       unfolding entriesFrom
@@ -85,8 +112,8 @@ module _ (o : Source) (s ws : List ℕ) (at : ℕ) (w : Walked o s ws at) where
           go (suc k) q i =
               record {
                 fuel = k;
-                enough = omega (arith, onward .0);
-                inside = onward .1;
+                enough = omega (arith, onward .onward);
+                inside = onward .inside;
                 whole = i ∙ ap (λ (y : Name). ws ++ entriesAfter s y (λ m. entriesFrom o s k m)) (sym e ∙ h)
                     ∙ sym (append-assoc ws (entryOf s b f ∷ []) (entriesFrom o s k n));
               }

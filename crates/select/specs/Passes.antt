@@ -67,7 +67,7 @@ pub record Passes (s es : List ℕ) (low : Bound) (t t′ : List ℕ) (p : Pass)
   pub settled : Settled s es (p .high) (p .stop)
   pub reached : Reached s es low (p .high)
 
--- a table filled with the entries es, if it holds so many
+-- a table filled with the entries es, if it holds so many; else with the first of them
 abbrev pub Fills : List ℕ → List ℕ → List ℕ → Filled → Type 0
 Fills es t t′ (F.All n) = (n ≡ length es) × (length t′ ≡ length t) × (n ≤ length t) × (take n t′ ≡ es) × (drop n t′ ≡ drop n t)
-Fills es t t′ F.More = (length t < length es) × (length t′ ≡ length t)
+Fills es t t′ F.More = (length t < length es) × (length t′ ≡ length t) × (t′ ≡ take (length t) es)

@@ -1,6 +1,6 @@
 // Where the first name begins that stands a second time, among names that stand in a part one after another: of as many names as there are, in a table of
-// any length. If it holds them all, they are divided at once. Else each pass over the part takes the least names that are above those of the passes before, as
-// many as the table holds, and arranges them.
+// any length. If it holds them all, they are divided at once; else the first of them are, and if none of these stands twice, each pass over the part takes the
+// least names that are above those of the passes before, as many as the table holds, and arranges them.
 use divide::Divided;
 use entries::Order;
 use format::Form;
@@ -8,7 +8,7 @@ use names::Name;
 use order::Arranged;
 ghost use mathlib.Core.Path.{_≡_};
 ghost use Prim.Native.Nat.{_/_, _≤_, _<_};
-ghost use lib.ListN.{length, replicate};
+ghost use lib.ListN.{length, take, replicate};
 ghost use Rattle.select.specs.Source.{namedAt, entriesOf, firstTwin, searched};
 ghost use Rattle.select.specs.Range.{above, upTo, wanted};
 ghost use Rattle.select.specs.Passes.{Covered, Cuts, Adds, Finishes, Passes, Fills};
@@ -226,7 +226,7 @@ fn pass_all(part: &[u8], source: Source, table: &mut [u64]) -> usize
 
 // ---- all names at once
 
-// So many entries stand in front of the table, and they are all; or there are more than it holds.
+// So many entries stand in front of the table, and they are all; or it is full of the first of them, and there are more.
 pub enum Filled {
     All(usize),
     More,
@@ -255,13 +255,31 @@ fn fill(part: &[u8], source: Source, table: &mut [u64]) -> Filled
     Filled::All(n)
 }
 
+// A table that is full of the first names. A twin among them is the first of all, since each later name begins behind it; if there is none, there are passes.
+fn go_on(part: &[u8], source: Source, table: &mut [u64]) -> usize
+    requires { ⌜ now table ≡ take (length (now table)) (entriesOf source (now part)) ⌝ }
+    ensures { λ r. ⌜ (r ≡ firstTwin source (now (part .entry))) × (now (table .exit) ≡ replicate (length (now (table .entry))) 0) ⌝ }
+{
+    let n = table.len();
+    match divide::first_twin(part, table, n) {
+        Divided::Unfit => 0,
+        Divided::Done(least) => {
+            if least < 16777216 {
+                return least;
+            }
+            pass_all(part, source, table)
+        }
+    }
+}
+
 // Where the first name begins that stands a second time; 16777216 if every name stands once. With a number for each name they are divided at once; the numbers
-// that were used hold zeros afterwards. With fewer there are passes, and the whole table holds zeros.
+// that were used hold zeros afterwards. With fewer those that the table holds are divided, and if each of them stands once there are passes; the whole table
+// holds zeros.
 pub fn first_twin(part: &[u8], source: Source, table: &mut [u64]) -> usize
     ensures { λ r. ⌜ record { answer = r; table = now (table .exit) } ≡ searched source (now (part .entry)) (now (table .entry)) ⌝ }
 {
     match fill(part, source, table) {
-        Filled::More => pass_all(part, source, table),
+        Filled::More => go_on(part, source, table),
         Filled::All(n) => match divide::first_twin(part, table, n) {
             Divided::Done(least) => least,
             Divided::Unfit => 0,

@@ -1,9 +1,9 @@
 use borrow.Author.Needs.{needs}
 use Rattle.select.proofs.first_twin.Statement.{statement}
 use Rattle.select.proofs.first_twin.Tie as tie
-use Rattle.select.proofs.FillReturns.{passed, divided-done, divided-unfit}
+use Rattle.select.proofs.FillReturns.{filled-front, passed, divided-done, divided-unfit}
 
-ruleset laws = (passed, divided-done, divided-unfit, needs)
+ruleset laws = (filled-front, passed, divided-done, divided-unfit, needs)
 
 pub first-twin-spec : {M : Type 1} → statement M
 first-twin-spec =
