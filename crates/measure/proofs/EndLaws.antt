@@ -4,7 +4,7 @@ use native.Mathlib.Omega.{arith}
 use mathlib.Core.Path.{_≡_, refl, sym, ap, _∙_}
 use mathlib.Core.Bool.{Bool, true, false, cond}
 use mathlib.Core.Option.{some}
-use mathlib.Core.List.{List, [], _∷_}
+use mathlib.Core.List.{List, [], _∷_, _++_}
 use lib.ListN.{length, take, drop, length-drop}
 use lib.Seq.{take-take, length-take-le}
 use lib.Dec.{ltb}
@@ -14,7 +14,7 @@ use Rattle.frames.specs.WriteList.{readFrames}
 use Rattle.frames.specs.FramePieces.{contentsBy, containerOf}
 use Rattle.twins.specs.Own.{freely}
 use Rattle.entries.specs.Entry.{beginIn}
-use Rattle.entries.specs.Least.{isFirst, isTwin, leastOf, least}
+use Rattle.entries.specs.Least.{isFirst, isTwin, lesser, leastOf, least}
 use Rattle.select.specs.declared.Source.the-variants as S
 use Rattle.select.specs.Source.{firstTwin}
 use Rattle.notes.specs.declared.Notes.{Notes}
@@ -25,9 +25,9 @@ use Rattle.used.specs.Place.{framePlace}
 use Rattle.used.proofs.ReadLaws.{ended-clear, ended-twin, ended-none}
 use Rattle.settle.specs.declared.Measured.{Measured}
 use Rattle.settle.specs.declared.Measured.the-variants as M
-use Rattle.measure.specs.Names.{twinMeasured, roomFor, twinBy, endedBy}
+use Rattle.naming.specs.Names.{twinMeasured, roomFor, twinBy, ending, endedBy}
 use Rattle.measure.specs.Passes.{ContentsAt}
-use Rattle.measure.proofs.NameCases.{room-inside, room-all}
+use Rattle.naming.proofs.RoomLaws.{lesser-is, room-inside, room-all}
 use Rattle.measure.proofs.LoopState.{LooseAt}
 use Rattle.measure.proofs.NameLaws.{NamesEnded}
 
@@ -67,18 +67,18 @@ module _ (d : ℕ) (s : List ℕ) (at before k : ℕ) (v v′ : List ℕ) (m : M
   names-few q = same-all (ended-clear d (drop at s) part-short reach (w .es) (w .ended) (few-once (drop at s) (w .es) (omega (arith, w .count))))
 
   module _ (r : Measured) where
-    twin-first : (g : ℕ) → g ≡ least (drop at s) (w .es) → g < 16777216 → r ≡ M.Refused NameUsed (at + framePlace d (drop at s) g)
+    twin-first : (g : ℕ) → g ≡ least (drop at s) (w .es) → g < 16777216 → r ≡ M.Refused NameUsed (lesser at (length s) + framePlace d (drop at s) g)
         → ContentsAt d s at before true k v v′ r
     unfolding containerOf
     twin-first g h q j =
         let x = ended-twin d (drop at s) part-short reach (w .es) (w .ended) (rw (← h) q) in
         let z : length s - length (drop (framePlace d (drop at s) g) (drop at s)) ≡ at + framePlace d (drop at s) g =
         back s at (framePlace d (drop at s) g) l (rw h (x .1)) in
-        rw (x .0, ← h, j) (record { answer = ap (M.Refused NameUsed) (sym z); work = refl })
+        rw (x .0, ← h, j, lesser-is at (length s) l) (record { answer = ap (M.Refused NameUsed) (sym z); work = refl })
 
     -- where the first twin begins
     abbrev begins : ℕ
-    begins = twinBy d (drop at s) t notes reach
+    begins = twinBy d s at t notes reach .answer
 
     least-is : 0 < reach → begins ≡ least (drop at s) (w .es)
     unfolding firstTwin
@@ -89,16 +89,19 @@ module _ (d : ℕ) (s : List ℕ) (at before k : ℕ) (v v′ : List ℕ) (m : M
         let y = noted-front (drop at s) (w .es) t notes n (w .noted) o (room-inside (length t) (heldIn notes) reach n refl) in
         noted-told (S.Frames d (reach - 1)) (drop at s) (w .es) (take n t) notes y x ∙ (rw x)
 
-    pub names-settled : r ≡ endedBy d (drop at s) at t notes reach m → ContentsAt d s at before true k v v′ r
+    pub names-settled : r ≡ endedBy d s at t notes reach m .answer → ContentsAt d s at before true k v v′ r
     unfolding endedBy containerOf
     names-settled e = some (ltb 0 reach) refl e
       where
         twin : 0 < reach → (o : Bool) → ltb begins 16777216 ≡ o
-            → r ≡ cond o (M.Refused NameUsed (at + framePlace d (drop at s) begins)) m → ContentsAt d s at before true k v v′ r
+            → r ≡ cond o (M.Refused NameUsed (lesser at (length s) + framePlace d (drop at s) begins)) m → ContentsAt d s at before true k v v′ r
         twin q true b j = twin-first begins (least-is q) (ltb-true begins 16777216 b) j
         twin q false b j =
             rw j (same-all (ended-clear d (drop at s) part-short reach (w .es) (w .ended) (rw (least-is q) at (ltb-false begins 16777216 b))))
 
-        some : (o : Bool) → ltb 0 reach ≡ o → r ≡ cond o (twinMeasured d (drop at s) at begins m) m → ContentsAt d s at before true k v v′ r
+        after : List ℕ
+        after = twinBy d s at t notes reach .table ++ drop (roomFor (length t) (heldIn notes) reach) t
+
+        some : (o : Bool) → ltb 0 reach ≡ o → r ≡ cond o (ending (twinMeasured d s at begins m) after) (ending m t) .answer → ContentsAt d s at before true k v v′ r
         some true b j = twin (ltb-true 0 reach b) (ltb begins 16777216) refl j
         some false b j = rw j (same-all (ended-none d (drop at s) part-short reach (w .es) (w .ended) (let q = ltb-false 0 reach b in omega arith)))

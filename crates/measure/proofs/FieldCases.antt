@@ -9,21 +9,20 @@ use mathlib.Core.List.{List, [], _∷_}
 use lib.ListN.{length, drop, length-append, length-drop}
 use Rattle.number.proofs.Clash.{clash}
 use Rattle.number.specs.BigEndian.{Bytes}
-use Rattle.number.specs.VarUInt.{encoded}
 use Rattle.format.specs.declared.Kind.{Kind}
 use Rattle.format.specs.declared.Flaw.the-variants.{Long, Low, NotUtf8}
-use Rattle.format.specs.Kinds.{id, known}
+use Rattle.format.specs.Kinds.{id}
 use Rattle.format.specs.Mask.{has}
 use Rattle.format.specs.Parse.{Out, fault, got}
 use Rattle.format.specs.Payload.{leaf, payload}
 use Rattle.format.specs.Tree.{Leaf, atom, Tree}
 use Rattle.frames.specs.declared.Refusal.{Refusal}
 use Rattle.frames.specs.declared.Refusal.the-variants.{TooDeep, BadFrame, NotText}
-use Rattle.frames.specs.WriteList.{Frames, refused, framed, next, isWritable, frameKind, leafFound, framePayload, frame, readFrames}
+use Rattle.frames.specs.WriteList.{Frames, refused, framed, next, isWritable, leafFound, framePayload, frame, readFrames}
 use Rattle.frames.specs.Container.{namePart}
 use Rattle.frames.specs.FramePieces.{modeOf, frameFront, IsLeaf}
 use Rattle.frames.proofs.LeafLaws.{leaf-of}
-use Rattle.frames.proofs.FrontLaws.{never, next-got, front-got, withName, frame-front, front-rests, array-payload, leaf-kind, object-payload}
+use Rattle.frames.proofs.FrontLaws.{front-got, withName, frame-front, front-rests, array-payload, leaf-kind, object-payload}
 use Rattle.frames.proofs.PlaceLaws.{bytes-drop, place, tail-at}
 use Rattle.frames.proofs.Used.{leaf-short, kind-object, kind-array}
 use Rattle.twins.specs.Own.{ownName}
@@ -40,16 +39,6 @@ use Rattle.measure.specs.Passes.{PayloadAt, ContentsAt, Lent}
 use Rattle.measure.proofs.SmallLaws.{Plain}
 
 -- ---- a frame up to its payload
-
--- an item has no name
-no-name : (s n q : List ℕ) (k : Kind) → frameFront none s ≡ framed (n, k) q → n ≡ []
-no-name [] n q k h = never h
-no-name (b ∷ s) n q k h = next-got (frameKind (b ∷ s) (known b) s) _ h λ j r e i. let z : _≡_ {A = List ℕ × Kind} ([], j) (n, k) = cc in sym (ap (λ x. x .0) z)
-
-name-short : (named : Bool) (n : List ℕ) → (named ≡ false → n ≡ []) → length n ≤ length (namePart named n)
-unfolding namePart
-name-short true n h = rw (length-append (encoded (length n)) n) (omega arith)
-name-short false n h = rw (h refl) (omega arith)
 
 module _ (d : ℕ) (s : List ℕ) (at : ℕ) (named : Bool) (l : at < length s) (f : Frame) (a : f ≡ frontAt d s at named) where
   -- it is refused, and has no right name
@@ -89,7 +78,6 @@ module _ (d : ℕ) (s : List ℕ) (at : ℕ) (named : Bool) (l : at < length s) 
       pub begin-is : begin ≡ length s - length left - length name
       pub start-is : start ≡ length s - length left
       pub length-is : start ≡ at + 1 + length (namePart named name)
-      pub short : length name ≤ length (namePart named name)
       pub inside : start ≤ length s
       pub tail : drop start s ≡ left
       pub good : isWritable (payload kind) ≡ true
@@ -118,7 +106,6 @@ module _ (d : ℕ) (s : List ℕ) (at : ℕ) (named : Bool) (l : at < length s) 
               begin-is = b;
               start-is = n;
               length-is = omega arith;
-              short = name-short named (x .0) (λ c. no-name (drop at s) (x .0) q kind (rw c at z));
               inside = omega (arith, t .1);
               tail = rw u (t .2);
               good = g .good;
@@ -139,19 +126,6 @@ module _ (d : ℕ) (s : List ℕ) (at : ℕ) (named : Bool) (l : at < length s) 
 
     pub frame-good : isWritable (payload kind) ≡ true
     frame-good = got-frame .good
-
-    pub name-after : (c : ℕ) → c ≤ at → c ≤ begin
-    name-after c q = let g = got-frame in order at (length (namePart named (g .name))) (length (g .name)) (g .begin-is) (g .start-is) (g .length-is)
-        (g .short) c q
-      where
-        order : (at m n : ℕ) {a b e : ℕ} → b ≡ a - n → e ≡ a → e ≡ at + 1 + m → n ≤ m → (c : ℕ) → c ≤ at → c ≤ b
-        order at m n x y z k c q = omega arith
-
-    pub name-before : begin ≤ start
-    name-before = let g = got-frame in order (length (g .name)) (g .begin-is) (g .start-is)
-      where
-        order : (n : ℕ) {a b e : ℕ} → b ≡ a - n → e ≡ a → b ≤ e
-        order n x y = omega arith
 
     -- with its payload it is the frame
     pub field-of : (k : ℕ) (w w′ : List ℕ) (m : Measured) → PayloadAt (d - 1) s at start kind k w w′ m → FieldAt d s at named k w w′ m

@@ -1,6 +1,5 @@
 mod SmallLaws
 mod ContainerFits
-mod NameCases
 mod FieldCases
 mod LoopState
 mod LoopLaws

@@ -47,9 +47,6 @@ module _ (d : ℕ) (s : List ℕ) (at : ℕ) (named : Bool) (k : ℕ) (w₀ w : 
   pub loop-sum-few : length s ≤ 65536 → sum ≤ 655360
   loop-sum-few h = omega (arith, l .small, l .high)
 
-  pub loop-low : at ≤ p
-  loop-low = l .low
-
   module _ (h : p < length s) where
     fuelled : (P : ℕ → Type 0) → ((f : ℕ) → length s ≤ p + suc f → P (suc f)) → P (l .fuel)
     fuelled P f = go (l .fuel) (l .enough)

@@ -1,7 +1,7 @@
 -- The first pass, the loop over the fields of an object or the items of an array: what the code knows at each return, and of the next round.
 use Prim.Native.Nat.{ℕ, _+_, _-_, _*_, _^_, _≤_, _<_}
 use native.Mathlib.Omega.{arith}
-use mathlib.Core.Path.{_≡_, refl}
+use mathlib.Core.Path.{_≡_, refl, ap}
 use mathlib.Core.Bool.{Bool, true, false}
 use mathlib.Core.List.{List, _++_}
 use lib.ListN.{length, take, drop, getD}
@@ -16,7 +16,6 @@ use Rattle.frames.specs.WriteList.{isWritable}
 use Rattle.frames.specs.FramePieces.{containerOf}
 use Rattle.run.specs.Run.{join}
 use Rattle.notes.specs.declared.Notes.{Notes}
-use Rattle.notes.specs.declared.Notes.the-variants.{Few}
 use Rattle.notes.specs.Notes.{heldIn, noting}
 use Rattle.settle.specs.declared.Measured.{Measured}
 use Rattle.settle.specs.declared.Measured.the-variants as M
@@ -26,14 +25,14 @@ use Rattle.frame.specs.declared.LeafFrame.{LeafFrame}
 use Rattle.frame.specs.declared.LeafFrame.the-variants as L
 use Rattle.frame.specs.Front.{frontAt}
 use Rattle.frame.specs.Pieces.{leafFrameAt}
-use Rattle.measure.specs.Names.{notedBy, endedBy}
+use Rattle.naming.specs.Names.{notedBy, ending, endedBy}
 use Rattle.measure.specs.Passes.{isLeaf, leafMeasured, ClosedBy, FieldAt, PayloadAt, ContentsAt, Lent}
-use Rattle.measure.proofs.FieldCases.{frame-deep, frame-start, frame-inside, frame-good, name-after, name-before, field-of, field-refused}
+use Rattle.measure.proofs.FieldCases.{frame-deep, frame-start, frame-inside, frame-good, field-of, field-refused}
 use Rattle.measure.proofs.FieldCases.{leaf-sum, leaf-is}
 use Rattle.measure.proofs.SmallLaws.{plain-told}
 use Rattle.measure.proofs.LoopState.{LooseAt, Loop, loop-start}
 use Rattle.measure.proofs.LoopLaws as loops
-use Rattle.measure.proofs.NameLaws.{NamesRead, NamesMet, NamesEnded, names-start, names-end, names-close, names-bad, names-note, names-kept}
+use Rattle.measure.proofs.NameLaws.{NamesRead, NamesMet, NamesEnded, names-end, names-close, names-bad, names-note, names-kept}
 use Rattle.measure.proofs.NameLaws.{names-cut, names-more}
 use Rattle.measure.proofs.EndLaws.{names-few, names-settled}
 
@@ -101,14 +100,7 @@ module _ {d : ℕ} {s : List ℕ} {at : ℕ} {named : Bool} {k : ℕ} {w₀ w : 
   pub met-deep : 1 ≤ d
   met-deep = frame-deep d s p named (g .more) (g .frame) (g .front) (st .lent .bytes) kind begin start (g .is)
 
-  -- what is asked of a name that is noted, and of a payload
-  pub met-name : (at ≤ length s) × (at ≤ begin) × (begin ≤ start)
-  met-name = (
-    st .inside,
-    name-after d s p named (g .more) (g .frame) (g .front) (st .lent .bytes) kind begin start (g .is) at (st .loop .low),
-    name-before d s p named (g .more) (g .frame) (g .front) (st .lent .bytes) kind begin start (g .is),
-  )
-
+  -- what is asked of a payload
   pub met-payload : (p < start) × (start ≤ length s) × (isWritable (payload kind) ≡ true) × Lent s p j
   met-payload = (
     frame-start d s p named (g .more) (g .frame) (g .front) (st .lent .bytes) kind begin start (g .is),
@@ -188,10 +180,10 @@ module _ {d : ℕ} {s : List ℕ} {at k : ℕ} {w₀ w : List ℕ} {p j n sum c 
     few : n < 2 → ContentsAt d s at before true k w₀ w′ m
     few = names-few d s at before k w₀ w′ m y (st .inside) (st .lent .short) t notes reach n e
 
-    settled : {r : Measured} → r ≡ endedBy d (drop at s) at t notes reach m → ContentsAt d s at before true k w₀ w′ r
-    settled {r} i = names-settled d s at before k w₀ w′ m y (st .inside) (st .lent .short) t notes reach n e r i
+    settled : {r : Measured} {t′ : List ℕ} → ending r t′ ≡ endedBy d s at t notes reach m → ContentsAt d s at before true k w₀ w′ r
+    settled {r} i = names-settled d s at before k w₀ w′ m y (st .inside) (st .lent .short) t notes reach n e r (ap (λ o. o .answer) i)
 
-  pub fields-end : {before : ℕ} {w′ : List ℕ} {r : Measured} → length s ≤ p → r ≡ endedBy d (drop at s) at t notes reach (M.Refused ListEnds p)
+  pub fields-end : {before : ℕ} {w′ : List ℕ} {r : Measured} {t′ : List ℕ} → length s ≤ p → ending r t′ ≡ endedBy d s at t notes reach (M.Refused ListEnds p)
       → ContentsAt d s at before true k w₀ w′ r
   fields-end h = settled (loose-end st h) (names-end d s at t notes reach n p (st .loop .low) nm h)
 
@@ -200,31 +192,31 @@ module _ {d : ℕ} {s : List ℕ} {at k : ℕ} {w₀ w : List ℕ} {p j n sum c 
       pub fields-closed : n < 2 → ContentsAt d s at before true k w₀ w′ m
       fields-closed = few (loose-close st h e by) (names-close d s at t notes reach n p (st .loop .low) nm h e)
 
-      pub fields-close : {r : Measured} → r ≡ endedBy d (drop at s) at t notes reach m → ContentsAt d s at before true k w₀ w′ r
+      pub fields-close : {r : Measured} {t′ : List ℕ} → ending r t′ ≡ endedBy d s at t notes reach m → ContentsAt d s at before true k w₀ w′ r
       fields-close = settled (loose-close st h e by) (names-close d s at t notes reach n p (st .loop .low) nm h e)
 
     module _ (nz : getD s p 0 ≡ 0 → ⊥) {f : Frame} (a : f ≡ frontAt d s p true) {before : ℕ} {b : Refusal} (i : f ≡ F.Refused b) where
       pub fields-barred : n < 2 → ContentsAt d s at before true k w₀ w (M.Refused b p)
       fields-barred = few (loose-bad st h nz a i) (names-bad d s at t notes reach n p (st .loop .low) nm h f a b i)
 
-      pub fields-bad : {r : Measured} → r ≡ endedBy d (drop at s) at t notes reach (M.Refused b p) → ContentsAt d s at before true k w₀ w r
+      pub fields-bad : {r : Measured} {t′ : List ℕ} → ending r t′ ≡ endedBy d s at t notes reach (M.Refused b p) → ContentsAt d s at before true k w₀ w r
       fields-bad = settled (loose-bad st h nz a i) (names-bad d s at t notes reach n p (st .loop .low) nm h f a b i)
 
 module _ {d : ℕ} {s : List ℕ} {at k : ℕ} {w₀ w : List ℕ} {p j n sum c : ℕ} {kind : Kind} {begin start : ℕ}
     (g : Met d s at true k w₀ w p j n sum c kind begin start) where
   pub noted : {t t₁ : List ℕ} {notes notes₁ : Notes} {reach : ℕ} → NamesRead d s at t notes reach n p
-      → noting notes₁ t₁ ≡ notedBy (drop at s) t notes (begin - at) (start - at) → NamesMet d s at t₁ notes₁ (n + 1) p
+      → noting notes₁ t₁ ≡ notedBy s at t notes begin start → NamesMet d s at t₁ notes₁ (n + 1) p
   noted {t} {t₁} {notes} {notes₁} {reach} nm y =
       names-note d s at t notes reach n p (g .standing .loop .low) nm (g .more) (g .frame) (g .front) (g .standing .lent .bytes) kind begin start (g .is)
       t₁ notes₁ y
 
   module _ {t : List ℕ} {notes : Notes} (nm : NamesMet d s at t notes (n + 1) p) {m : Measured} {w′ : List ℕ}
       (q : PayloadAt (d - 1) s p start kind j w w′ m) where
-    pub fields-cut : {before : ℕ} {b : Refusal} {z : ℕ} {r : Measured} → m ≡ M.Refused b z
-        → r ≡ endedBy d (drop at s) at t notes (p - at + 1) (M.Refused b z) → ContentsAt d s at before true k w₀ w′ r
+    pub fields-cut : {before : ℕ} {b : Refusal} {z : ℕ} {r : Measured} {t′ : List ℕ} → m ≡ M.Refused b z
+        → ending r t′ ≡ endedBy d s at t notes (p - at + 1) (M.Refused b z) → ContentsAt d s at before true k w₀ w′ r
     fields-cut {before} {b} {z} {r} e i =
         names-settled d s at before k w₀ w′ (M.Refused b z) (loose-cut g q e) (g .standing .inside) (g .standing .lent .short) t notes (p - at + 1) (n + 1)
-        (names-cut d s at t notes (n + 1) p nm j w w′ m (field g q) b z e) r i
+        (names-cut d s at t notes (n + 1) p nm j w w′ m (field g q) b z e) r (ap (λ o. o .answer) i)
 
     pub names-next : {next x size j′ : ℕ} → m ≡ M.Read next x size j′ → NamesRead d s at t notes (p - at + 1) (n + 1) next
     names-next {next} {x} {size} {j′} e = names-more d s at t notes (n + 1) p nm j w w′ m (field g q) next x size j′ e

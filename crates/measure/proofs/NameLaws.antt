@@ -25,7 +25,7 @@ use Rattle.settle.specs.declared.Measured.the-variants as M
 use Rattle.frame.specs.declared.Frame.{Frame}
 use Rattle.frame.specs.declared.Frame.the-variants as F
 use Rattle.frame.specs.Front.{frontAt}
-use Rattle.measure.specs.Names.{notedBy}
+use Rattle.naming.specs.Names.{notedBy}
 use Rattle.measure.specs.Passes.{fieldMeasured, FieldAt}
 use Rattle.measure.proofs.FieldCases.{barred, Got, got-frame}
 
@@ -92,7 +92,7 @@ module _ (d : ℕ) (s : List ℕ) (at : ℕ) where
             end-of (read-bad d (drop at s) reach (w .es) (p - at) (w .read) (drop p s) (part-at s at p l) b (drop p s) (o .whole) (o .unnamed refl))
 
         module _ (bytes : Bytes s) (kind : Kind) (begin start : ℕ) (j : f ≡ F.Read kind begin start) (t′ : List ℕ) (notes′ : Notes)
-            (y : noting notes′ t′ ≡ notedBy (drop at s) t notes (begin - at) (start - at)) where
+            (y : noting notes′ t′ ≡ notedBy s at t notes begin start) where
           pub names-note : NamesMet t′ notes′ (n + 1) p
           names-note =
               let g = got-frame d s p true h f a bytes kind begin start j in

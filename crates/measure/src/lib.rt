@@ -4,70 +4,18 @@ use frame::Frame;
 use frame::LeafFrame;
 use frames::Refusal;
 use notes::Notes;
-use select::Source;
 use settle::Measured;
 use settle::Settled;
 ghost use mathlib.Core.Path.{_≡_};
 ghost use mathlib.Core.Bool.{true, false};
-ghost use Prim.Native.Nat.{_+_, _-_, _≤_, _<_};
-ghost use lib.ListN.{length, drop};
+ghost use Prim.Native.Nat.{_+_, _≤_, _<_};
+ghost use lib.ListN.{length};
 ghost use Rattle.number.specs.VarUInt.{encoded};
 ghost use Rattle.format.specs.Payload.{payload};
 ghost use Rattle.frames.specs.Container.{sizeBy, packed};
 ghost use Rattle.frames.specs.WriteList.{isWritable};
-ghost use Rattle.notes.specs.Notes.{noting};
-ghost use Rattle.measure.specs.Names.{notedBy, roomFor, endedBy};
 ghost use Rattle.measure.specs.Passes.{isLeaf, leafMeasured, LeafSmall, ClosedBy, PayloadAt, FieldAt, ContentsAt, Lent};
 ghost use Rattle.measure.specs.Settle.{measurement, settledWithin, settled};
-
-// ---- the names of an object. They are noted while its frames are read, and at its end the first frame is told whose name it has already
-
-// The name of a frame, which stands from one place of the list to another. The object's frames begin at `at`.
-fn note(list: &[u8], at: usize, table: &mut [u64], notes: Notes, begin: usize, end: usize) -> Notes
-    requires { ⌜ (at ≤ length (now list)) × (at ≤ begin) × (begin ≤ end) ⌝ }
-    ensures { λ r. ⌜ noting r (now (table .exit)) ≡ notedBy (drop at (now (list .entry))) (now (table .entry)) notes (begin - at) (end - at) ⌝ }
-{
-    let part = &list[at..];
-    let name = entries::entry(part, begin - at, end - at);
-    notes::add(part, table, notes, name)
-}
-
-// How much of a table the names of frames that begin before `reach` need: two numbers for each, which takes three bytes at least; and the notes.
-fn room_for(numbers: usize, held: usize, reach: usize) -> usize
-    ensures { λ r. ⌜ r ≡ roomFor numbers held reach ⌝ }
-{
-    if held < reach {
-        return entries::lesser(numbers, reach);
-    }
-    entries::lesser(numbers, held)
-}
-
-// What the object comes to, once its frames that begin before `reach` were noted: refused for a name, or what was measured.
-fn ended(
-    list: &[u8],
-    at: usize,
-    table: &mut [u64],
-    notes: Notes,
-    reach: usize,
-    left: u32,
-    measured: Measured,
-) -> Measured
-    requires { ⌜ at ≤ length (now list) ⌝ }
-    ensures { λ r. ⌜ r ≡ endedBy left (drop at (now (list .entry))) at (now (table .entry)) notes reach measured ⌝ }
-{
-    if reach == 0 {
-        return measured;
-    }
-    let part = &list[at..];
-    let room = room_for(table.len(), notes::held(notes), reach);
-    let source = Source::Frames(left, reach - 1);
-    let twin = notes::first_twin(part, source, &mut table[..room], notes);
-    if twin < 16777216 {
-        let place = used::place_of(part, left, twin);
-        return Measured::Refused(Refusal::NameUsed, at + place);
-    }
-    measured
-}
 
 // ---- a leaf and a container
 
@@ -269,7 +217,7 @@ fn measure_fields(
             if count < 2 {
                 return done;
             }
-            return ended(list, at, table, notes, reach, left, done);
+            return naming::ended(list, at, table, notes, reach, left, done);
         }
         match frame::front_at(list, p, true, left) {
             Frame::Refused(refusal) => {
@@ -277,17 +225,17 @@ fn measure_fields(
                 if count < 2 {
                     return refused;
                 }
-                return ended(list, at, table, notes, reach, left, refused);
+                return naming::ended(list, at, table, notes, reach, left, refused);
             }
             Frame::Read { kind, begin, start } => {
-                notes = note(list, at, table, notes, begin, start);
+                notes = naming::note(list, at, table, notes, begin, start);
                 reach = p - at + 1;
                 count += 1;
                 if is_leaf(kind) {
                     match frame::leaf_at(list, start, kind) {
                         LeafFrame::Refused(refusal) => {
                             let refused = Measured::Refused(refusal, p);
-                            return ended(list, at, table, notes, reach, left, refused);
+                            return naming::ended(list, at, table, notes, reach, left, refused);
                         }
                         LeafFrame::Read { end, id, size } => {
                             sum += start - (p + 1) + size;
@@ -309,7 +257,7 @@ fn measure_fields(
                     ) {
                         Measured::Refused(refusal, place) => {
                             let refused = Measured::Refused(refusal, place);
-                            return ended(list, at, table, notes, reach, left, refused);
+                            return naming::ended(list, at, table, notes, reach, left, refused);
                         }
                         Measured::Read {
                             next,
@@ -328,7 +276,7 @@ fn measure_fields(
         }
     }
     let refused = Measured::Refused(Refusal::ListEnds, p);
-    ended(list, at, table, notes, reach, left, refused)
+    naming::ended(list, at, table, notes, reach, left, refused)
 }
 
 // ---- the whole

@@ -11,17 +11,17 @@ use Rattle.measure.proofs.measure_payload.Reads as measure-payload
 use Rattle.frame.proofs.front_at.Reads as front-at-reads
 use Rattle.frame.proofs.leaf_at.Reads as leaf-at-reads
 use Rattle.measure.proofs.closed.Reads as closed-reads
-use Rattle.measure.proofs.ended.Reads as ended-reads
 use Rattle.measure.proofs.is_leaf.Reads as is-leaf-reads
-use Rattle.measure.proofs.note.Reads as note-reads
+use Rattle.naming.proofs.ended.Reads as ended-reads
+use Rattle.naming.proofs.note.Reads as note-reads
 use Rattle.notes.proofs.held.Reads as held-reads
 use Rattle.run.proofs.join.Reads as join-reads
 use Rattle.measure.proofs.+measure_fields+measure_items+measure_payload.Proof.Levels.{measure-fields-at, measure-payload-below}
 use Rattle.measure.proofs.NameLaws.{NamesRead, names-start}
 use Rattle.measure.proofs.LoopReturns.{Standing, standing-starts, stands-few, stands-next, stands-low, stands-more, more-sum, more-less}
-use Rattle.measure.proofs.LoopReturns.{Met, met, met-deep, met-name, met-payload, met-leaf, leaf-size, leaf-bad, leaf-good, fields-end}
-use Rattle.measure.proofs.LoopReturns.{fields-closed, fields-close, fields-barred, fields-bad, fields-cut, names-next, noted}
-use Rattle.measure.proofs.LoopReturns.{met-held, met-scaled, same-table, names-over}
+use Rattle.measure.proofs.LoopReturns.{Met, met, met-deep, met-payload, met-leaf, leaf-size, leaf-bad, leaf-good}
+use Rattle.measure.proofs.LoopReturns.{fields-end, fields-closed, fields-close, fields-barred, fields-bad, fields-cut}
+use Rattle.measure.proofs.LoopReturns.{names-next, noted, met-held, met-scaled, same-table, names-over}
 
 ruleset starts = (standing-starts, names-start, needs)
 
@@ -95,15 +95,14 @@ fields-pass t =
     (e .loop .inv .2) (e .loop .inv .3) (f .before .before .before .loop-test .taken) (f .before .if1 .left) (f .front-at .ensures)
     (c .before .before .before .before .before .before .refusal .given .1) (c .before .before .ended2 .ensures))
     (λ c. search needs)
-    (λ c κs. met-name (met-at t (c .before .before)))
+    (λ c κs. search needs)
     (λ c. stands-low (c .before .before .before .before .before .before .before .before .before .before .before .loop .inv .2))
     (λ c. search needs)
     (λ c. stands-next (c .before .before .before .before .before .before .before .before .before .before .before .loop .inv .2))
     (λ c κs. search needs)
     (λ c κs. search needs)
     (λ c. search needs)
-    (λ c κs. let l = c .before .before .before .before in
-    l .before .before .before .before .before .before .before .before .before .before .before .before .before .before .loop .inv .2 .inside)
+    (λ c κs. search needs)
     (λ c. let n = c .before .before .before .before .before .before .before .before .before .before .before .before in
     c .before .before .ended3 .kept .1 .1 .0 ∙ (n .note .kept .1 .1 .0 ∙
     n .before .before .before .before .before .before .before .before .before .loop .inv .0))
@@ -150,8 +149,7 @@ fields-pass t =
       met-payload g,
     ))
     (λ c. search needs)
-    (λ c κs. let n = c .before .before .before .before .before .before .before .before .before .before .before .before .before .before .before .before in
-    n .before .before .before .before .before .before .before .before .before .loop .inv .2 .inside)
+    (λ c κs. search needs)
     (λ c. let m = c .before .before .before .before .before .before .before .before .before .before .before in
     let n = m .before .before .before .before .before .before .before .before in let g = met-at t (n .before .before .before) in let o = noted g
     (n .before .before .before .before .before .before .before .before .before .loop .inv .3) (n .note .ensures) in

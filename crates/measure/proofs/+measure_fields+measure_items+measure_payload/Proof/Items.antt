@@ -15,8 +15,8 @@ use Rattle.measure.proofs.is_leaf.Reads as is-leaf-reads
 use Rattle.run.proofs.join.Reads as join-reads
 use Rattle.measure.proofs.+measure_fields+measure_items+measure_payload.Proof.Levels.{measure-items-at, measure-payload-below}
 use Rattle.measure.proofs.LoopReturns.{Standing, standing-starts, stands-few, stands-next, stands-more, more-sum, more-less}
-use Rattle.measure.proofs.LoopReturns.{Met, met, met-deep, met-payload, met-leaf, leaf-size, leaf-bad, leaf-good, items-end}
-use Rattle.measure.proofs.LoopReturns.{items-close, items-bad, items-cut}
+use Rattle.measure.proofs.LoopReturns.{Met, met, met-deep, met-payload, met-leaf, leaf-size, leaf-bad, leaf-good}
+use Rattle.measure.proofs.LoopReturns.{items-end, items-close, items-bad, items-cut}
 
 ruleset starts = (standing-starts, needs)
 

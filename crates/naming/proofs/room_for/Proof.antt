@@ -1,7 +1,7 @@
 use borrow.Author.Needs.{needs}
-use Rattle.measure.proofs.room_for.Statement.{statement}
-use Rattle.measure.proofs.room_for.Tie as tie
-use Rattle.measure.proofs.NameCases.{room-reach, room-held}
+use Rattle.naming.proofs.room_for.Statement.{statement}
+use Rattle.naming.proofs.room_for.Tie as tie
+use Rattle.naming.proofs.RoomLaws.{room-reach, room-held}
 
 ruleset laws = (room-reach, room-held, needs)
 

@@ -1,0 +1,3 @@
+pub mod RoomLaws
+mod NameReturns
+pub mod OneAnswer
