@@ -102,7 +102,8 @@ use Rattle.frames.proofs.Refusals as frames
 --   container::container_id, type_flags, shared_flags, size_of, pack, size_in, width_in, shared_in, is_uniform_in, store, number_at, clear;
 --   leaves::fixed, positive, negative, float64, text_leaf, custom_by_id, custom_by_name; printing::put_refused, put_encoding;
 --   head::fixed_size, meet_of, head_of; Place::of, places::placed; names::name_at;
---   entries::entry, begin_of, lesser, compare, is_upto, ascends, is_first, first_twin, clear; order::arrange; tables::second, are_fit; divide::first_twin;
+--   entries::entry, begin_of, length_of, lesser, clear; compare::compare, is_upto, ascends; pairs::is_first, first_twin;
+--   order::arrange; tables::second, are_fit; divide::first_twin;
 --   passing::name_at; select::name_at, first_twin; notes::held, add, first_twin; used::place_of; naming::note, ended;
 --   frame::kind_of, name_of, name_at, name_end, front_at, leaf_of, leaf_at, leaf_end, bits_of; open::open_place; settle::decided; measure::measure;
 --   output::copy, bits_at, final_id;

@@ -134,7 +134,7 @@ fn narrow(part: &[u8], table: &mut [u64], at: usize) -> Rest
     let n = table.len();
     if n <= 4 {
         return Rest {
-            best: entries::first_twin(part, table, n),
+            best: pairs::first_twin(part, table, n),
             count: 0,
             at: at,
         };

@@ -1,19 +1,17 @@
--- Where the first twin begins: it depends on the entries and not on their order, and of sorted ones it is told by neighbours.
+-- Where the first twin begins: it depends on the entries and not on their order.
 use Prim.Native.Nat.{ℕ, _≤_, _<_}
 use native.Mathlib.Omega.{arith}
 use mathlib.Core.Path.{_≡_, refl, sym, ap, _∙_}
 use mathlib.Core.Bool.{Bool, true, false, cond, _||_}
 use mathlib.Core.List.{List, [], _∷_}
 use lib.Dec.{ltb}
-use borrow.Author.Tests.{ltb-true, ltb-false, lt-ltb}
+use borrow.Author.Tests.{ltb-true, ltb-false, lt-ltb, le-ltb}
 use Rattle.number.proofs.Clash.{clash}
 use Rattle.text.specs.Equal.{equal}
 use Rattle.text.proofs.Laws.{and-both, equal-refl, equal-is}
 use Rattle.entries.specs.Entry.{beginIn, nameIn, keyIn}
 use Rattle.entries.specs.Least.{sameName, isFirst, isTwin, lesser, leastOf, least}
 use Rattle.entries.specs.Among.{Perm, In, here, there}
-use Rattle.entries.specs.Order.{order}
-use Rattle.entries.proofs.OrderLaws.{Upto, less, same, order-not}
 use Rattle.entries.proofs.Perms.{perm-in, perm-back}
 
 pub begin-below : (x : ℕ) → beginIn x < 16777216
@@ -27,7 +25,7 @@ named-same s x y h = equal-is (nameIn s x) (nameIn s y) h
 pub same-named : (s : List ℕ) (x y : ℕ) → nameIn s x ≡ nameIn s y → sameName s x y ≡ true
 same-named s x y e = ap (λ (n : List ℕ). equal (nameIn s x) n) (sym e) ∙ equal-refl (nameIn s x)
 
-name-key : (s : List ℕ) (x y : ℕ) → nameIn s x ≡ nameIn s y → keyIn x ≡ keyIn y
+pub name-key : (s : List ℕ) (x y : ℕ) → nameIn s x ≡ nameIn s y → keyIn x ≡ keyIn y
 name-key s x y e = cc
 
 module _ (s : List ℕ) (x y : ℕ) where
@@ -41,12 +39,7 @@ module _ (s : List ℕ) (x y : ℕ) where
   unfolding isFirst
   is-first l e = rw (lt-ltb (beginIn x) (beginIn y) l) (same-named s x y e)
 
-  -- of one name, what is up to the other begins no later
-  pub upto-begins : Upto s x y → nameIn s x ≡ nameIn s y → beginIn x ≤ beginIn y
-  upto-begins (less h) e = order-not (nameIn s x) (ap (λ (n : List ℕ). order (nameIn s x) n) e ∙ h)
-  upto-begins (same d l) e = omega (arith, name-key s x y e)
-
-  -- and if they begin at one place, they are one
+  -- of one name, and if they begin at one place, they are one
   pub one-begin : nameIn s x ≡ nameIn s y → beginIn x ≡ beginIn y → x ≡ y
   one-begin e i = omega (arith, name-key s x y e)
 
@@ -92,6 +85,12 @@ lesser-both k a b l m = go (ltb a b)
     go : (o : Bool) → k ≤ cond o a b
     go true = l
     go false = m
+
+pub lesser-first : (a b : ℕ) → a < b → a ≡ lesser a b
+lesser-first a b l = rw (lt-ltb a b l)
+
+pub lesser-second : (a b : ℕ) → b ≤ a → b ≡ lesser a b
+lesser-second a b l = rw (le-ltb a b l)
 
 -- it is no more than the beginning of a twin, and what is no more than any of these is no more than it
 least-least : (s t : List ℕ) (e : ℕ) (es : List ℕ) → In e es → isTwin s t e ≡ true → leastOf s t es ≤ beginIn e

@@ -5,37 +5,35 @@ use mathlib.Core.Bool.{true, false}
 use mathlib.Core.List.{List, [], _∷_}
 use Rattle.text.specs.Equal.{equal}
 use Rattle.entries.specs.Entry.{bytesAt, halfAt, markOf, entryOf, bytesIn}
-use Rattle.entries.specs.Order.{order, orderIn, ascends}
 use Rattle.entries.specs.Least.{isFirst, isTwin, leastOf, least}
-use Rattle.entries.specs.declared.Order.the-variants as O
 
 -- "ab", "b", "ab", "a", "ab", and names that only a byte in the middle tells apart: "ayb", "axb"
-abbrev part : List ℕ
+abbrev pub part : List ℕ
 part = 97 ∷ 98 ∷ 98 ∷ 97 ∷ 98 ∷ 97 ∷ 97 ∷ 98 ∷ 97 ∷ 121 ∷ 98 ∷ 97 ∷ 120 ∷ 98 ∷ []
 
 -- of a mark, a length, and where it begins
-abbrev of : ℕ → ℕ → ℕ → ℕ
+abbrev pub of : ℕ → ℕ → ℕ → ℕ
 of m n p = (m * 16777216 + n) * 16777216 + p
 
-abbrev ab : ℕ
+abbrev pub ab : ℕ
 ab = of 18 2 0
 
-abbrev b : ℕ
+abbrev pub b : ℕ
 b = of 2 1 2
 
-abbrev ab₂ : ℕ
+abbrev pub ab₂ : ℕ
 ab₂ = of 18 2 3
 
-abbrev a : ℕ
+abbrev pub a : ℕ
 a = of 1 1 5
 
-abbrev ab₃ : ℕ
+abbrev pub ab₃ : ℕ
 ab₃ = of 18 2 6
 
-abbrev ayb : ℕ
+abbrev pub ayb : ℕ
 ayb = of 402 3 8
 
-abbrev axb : ℕ
+abbrev pub axb : ℕ
 axb = of 386 3 11
 
 -- the entries of these names; of an empty one, with no byte; of one that ends before it begins; of one past the end
@@ -49,13 +47,6 @@ bytes : bytesIn part b ∷ bytesIn part axb ∷ bytesIn part (axb + 1) ∷ bytes
 unfolding bytesAt
 bytes = refl
 
--- by name, and what ends first is less; of one name what begins first; an entry and itself; names of one key by their bytes
-orders : orderIn part a ab ∷ orderIn part b ab ∷ orderIn part ab ab₂ ∷ orderIn part ab₂ ab ∷ orderIn part b b ∷ orderIn part ayb axb
-    ∷ order (1 ∷ []) (1 ∷ 2 ∷ []) ∷ order (1 ∷ 2 ∷ []) (1 ∷ []) ∷ order [] [] ∷ []
-    ≡ O.Less ∷ O.Less ∷ O.Less ∷ O.More ∷ O.Same ∷ O.More ∷ O.Less ∷ O.More ∷ O.Same ∷ []
-unfolding bytesAt order
-orders = refl
-
 -- the first of a name is no twin, and no entry is its own
 twins : isTwin part (ab₂ ∷ b ∷ ab ∷ []) ab ∷ isTwin part (ab₂ ∷ b ∷ ab ∷ []) ab₂ ∷ isTwin part (b ∷ b ∷ []) b ∷ [] ≡ false ∷ true ∷ false ∷ []
 unfolding bytesAt equal isFirst isTwin
@@ -68,12 +59,6 @@ leasts :
     ≡ 16777216 ∷ 3 ∷ 3 ∷ 4 ∷ 16777216 ∷ []
 unfolding bytesAt equal isFirst isTwin leastOf
 leasts = refl
-
--- by the bytes alone: what ends first comes first, and no name comes before itself
-ascending : ascends part a ab ∷ ascends part ab a ∷ ascends part ab ab₂ ∷ ascends part axb ayb ∷ ascends part ayb axb ∷ ascends part ab b ∷ ascends part (axb + 1) a ∷ []
-    ≡ true ∷ false ∷ false ∷ true ∷ false ∷ true ∷ true ∷ []
-unfolding bytesAt order ascends
-ascending = refl
 
 -- the mark of a name of five bytes, of one of four, and of bytes above 127: lower halves, the last one lowest
 marks : markOf (1 ∷ 2 ∷ 3 ∷ 4 ∷ 5 ∷ []) 0 5 ∷ markOf (1 ∷ 2 ∷ 3 ∷ 4 ∷ 5 ∷ []) 0 4 ∷ markOf (195 ∷ 169 ∷ []) 0 2 ∷ markOf (97 ∷ []) 1 1 ∷ []

@@ -11,13 +11,13 @@ use lib.Dec.{ltb, leb}
 use borrow.Author.Tests.{ltb-true, leb-true}
 use Rattle.number.proofs.Clash.{clash}
 use Rattle.text.proofs.Laws.{and-both}
-use Rattle.entries.specs.declared.Order.{Order}
-use Rattle.entries.specs.declared.Order.the-variants as O
+use Rattle.compare.specs.declared.Order.{Order}
+use Rattle.compare.specs.declared.Order.the-variants as O
 use Rattle.entries.specs.Entry.{beginIn, bytesIn, nameIn}
-use Rattle.entries.specs.Order.{order, isLess, ascends}
+use Rattle.compare.specs.Order.{order, isLess, ascends}
 use Rattle.entries.specs.Least.{isFirst, lesser, least}
 use Rattle.entries.specs.Among.{In, here, there}
-use Rattle.entries.proofs.OrderLaws.{order-refl, order-trans}
+use Rattle.compare.proofs.OrderLaws.{order-refl, order-trans}
 use Rattle.entries.proofs.LeastLaws.{first-is, lesser-right, least-bound, least-over}
 use Rattle.select.specs.declared.Source.{Source}
 use Rattle.select.specs.Source.{Searched, entriesOf, firstTwin, zeroed, searched}

@@ -9,7 +9,7 @@ use lib.ListN.{length, take, set, getD}
 use lib.Seq.{take-suc, take-all}
 use lib.Dec.{ltb}
 use borrow.Author.Tests.{ltb-false, lt-ltb, le-ltb}
-use Rattle.entries.specs.Order.{ascends}
+use Rattle.compare.specs.Order.{ascends}
 use Rattle.entries.specs.Least.{lesser, least}
 use Rattle.entries.proofs.LeastLaws.{lesser-left, lesser-right}
 use Rattle.select.specs.declared.Source.{Source}

@@ -4,7 +4,7 @@ use mathlib.Core.Path.{_≡_, refl}
 use mathlib.Core.Bool.{true, false}
 use mathlib.Core.List.{List, [], _∷_}
 use Rattle.entries.specs.Entry.{bytesAt}
-use Rattle.entries.specs.Order.{order, ascends}
+use Rattle.compare.specs.Order.{order, ascends}
 use Rattle.notes.specs.declared.Notes.the-variants.{Few, Rising, Many}
 use Rattle.notes.specs.Notes.{risesFrom, rises, heldIn, noting, added}
 

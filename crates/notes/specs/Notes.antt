@@ -4,7 +4,7 @@ use mathlib.Core.Bool.{Bool, true, _&&_, cond}
 use mathlib.Core.List.{List, [], _∷_, _++_}
 use lib.ListN.{length, take, set}
 use lib.Dec.{ltb}
-use Rattle.entries.specs.Order.{ascends}
+use Rattle.compare.specs.Order.{ascends}
 use Rattle.entries.specs.Least.{lesser, least}
 use Rattle.select.specs.declared.Source.{Source}
 use Rattle.select.specs.Source.{Searched, searched}

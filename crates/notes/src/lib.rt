@@ -32,7 +32,7 @@ fn rise<'a>(part: &'a [u8], table: &'a [u64], n: usize, x: u64) -> bool
     let mut next = x;
     while 0 < i {
         let last = table[i - 1];
-        if entries::ascends(part, last, next) {
+        if compare::ascends(part, last, next) {
             next = last;
             i -= 1;
         } else {
@@ -64,7 +64,7 @@ pub fn add(part: &[u8], table: &mut [u64], notes: Notes, x: u64) -> Notes
             }
             risen(rise(part, table, n, x), x)
         }
-        Notes::Rising(last) => risen(entries::ascends(part, last, x), x),
+        Notes::Rising(last) => risen(compare::ascends(part, last, x), x),
         Notes::Many => Notes::Many,
     }
 }
@@ -74,7 +74,7 @@ pub fn first_twin(part: &[u8], source: Source, table: &mut [u64], notes: Notes) 
     ensures { λ r. ⌜ record { answer = r; table = now (table .exit) } ≡ told source (now (part .entry)) (now (table .entry)) notes ⌝ }
 {
     match notes {
-        Notes::Few(n) => entries::first_twin(part, table, n),
+        Notes::Few(n) => pairs::first_twin(part, table, n),
         Notes::Rising(last) => 16777216,
         Notes::Many => select::first_twin(part, source, table),
     }

@@ -6,7 +6,7 @@ use mathlib.Core.Bool.{Bool, true}
 use mathlib.Core.List.{List, [], _∷_, _++_, append-assoc}
 use lib.ListN.{length, take, drop, getD, List·getD-append}
 use lib.Seq.{take-all, take-suc, take-at, drop-at, take-take, getD-take, getD-at}
-use Rattle.entries.specs.Order.{upto}
+use Rattle.compare.specs.Order.{upto}
 use Rattle.order.specs.Arranged.{ordered}
 use Rattle.order.specs.Sorted.{Below, Sorted}
 use Rattle.order.specs.Passes.{Holds, Halves, Copies, Merges, Joins}

@@ -8,11 +8,11 @@ use mathlib.Core.List.{List, [], _∷_, _++_, append-assoc}
 use lib.ListN.{length, take, drop, getD, set, length-drop, length-set, take-append-drop, drop-of-length-le}
 use lib.Seq.{append-snoc, drop-cons, drop-drop, take-take, getD-take, getD-drop, take-suc-set, drop-set-lt, take-set-lt}
 use Rattle.number.proofs.Clash.{clash}
-use Rattle.entries.specs.Order.{upto}
+use Rattle.compare.specs.Order.{upto}
 use Rattle.order.specs.Arranged.{ordered}
 use Rattle.order.specs.Sorted.{Below, Sorted}
 use Rattle.order.specs.Passes.{Halves, Seconds, Runs, Merges}
-use Rattle.entries.proofs.OrderLaws.{upto-not, is-upto}
+use Rattle.compare.proofs.OrderLaws.{upto-not, is-upto}
 use Rattle.order.proofs.SortedLaws.{below-trans, below-append, ordered-is, ordered-front, ordered-middle}
 
 -- ---- whether the second run is next

@@ -8,13 +8,13 @@ use lib.Dec.{ltb}
 use borrow.Author.Tests.{ltb-true, ltb-false}
 use Rattle.number.proofs.Clash.{clash}
 use Rattle.entries.specs.Entry.{beginIn, nameIn}
-use Rattle.entries.specs.Order.{upto}
+use Rattle.compare.specs.Order.{upto}
 use Rattle.entries.specs.Least.{isFirst, lesser, least}
 use Rattle.entries.specs.Among.{In, here, there}
 use Rattle.order.specs.Sorted.{Below, Sorted}
 use Rattle.entries.proofs.Perms.{in-left, in-last, in-cases}
-use Rattle.entries.proofs.OrderLaws.{Upto, upto-is, between}
-use Rattle.entries.proofs.LeastLaws.{first-is, is-first, upto-begins, one-begin, lesser-left, lesser-right, lesser-both}
+use Rattle.compare.proofs.OrderLaws.{Upto, upto-is, upto-begins, between}
+use Rattle.entries.proofs.LeastLaws.{first-is, is-first, one-begin, lesser-left, lesser-right, lesser-both}
 use Rattle.entries.proofs.LeastLaws.{least-bound, least-over, least-pair, least-more}
 
 -- in a sorted list all before the last are up to it

@@ -4,7 +4,7 @@ use mathlib.Core.Path.{_≡_, refl}
 use mathlib.Core.List.{List, [], _∷_}
 use Rattle.text.specs.Equal.{equal}
 use Rattle.entries.specs.Entry.{bytesAt}
-use Rattle.entries.specs.Order.{order, upto}
+use Rattle.compare.specs.Order.{order, upto}
 use Rattle.entries.specs.Least.{isFirst, isTwin, leastOf}
 use Rattle.order.specs.Arranged.{before, kept, inserted, ordered, settled, arranged, afterwards}
 use Rattle.order.specs.declared.Arranged.the-variants.{NoRoom, Done}

@@ -5,11 +5,11 @@ use mathlib.Core.Bool.{Bool, true, false, cond}
 use mathlib.Core.List.{List, [], _∷_, _++_}
 use lib.ListN.{length}
 use Rattle.number.proofs.Clash.{clash}
-use Rattle.entries.specs.Order.{upto}
+use Rattle.compare.specs.Order.{upto}
 use Rattle.order.specs.Arranged.{inserted, ordered}
 use Rattle.entries.specs.Among.{Perm, done, keep, swap, then, In, here, there}
 use Rattle.order.specs.Sorted.{Below, Sorted}
-use Rattle.entries.proofs.OrderLaws.{upto-is, is-upto, upto-not, upto-trans, upto-one}
+use Rattle.compare.proofs.OrderLaws.{upto-is, is-upto, upto-not, upto-trans, upto-one}
 use Rattle.entries.proofs.Perms.{perm-same, perm-middle, perm-both, perm-length, perm-in}
 
 -- ---- an entry and all of a list

@@ -13,7 +13,7 @@ use Rattle.entries.specs.Least.{isFirst, isTwin, lesser, leastOf, least}
 use Rattle.entries.specs.Among.{In}
 use Rattle.order.specs.Sorted.{Sorted}
 use Rattle.order.specs.Passes.{leastNext, Tells}
-use Rattle.entries.proofs.OrderLaws.{Upto, upto-refl}
+use Rattle.compare.proofs.OrderLaws.{Upto, upto-refl}
 use Rattle.entries.proofs.Perms.{in-last, in-cases}
 use Rattle.order.proofs.NeighbourLaws.{sorted-last, sorted-left, next-first, next-not}
 

@@ -6,7 +6,7 @@ use lib.ListN.{length, take, drop, replicate}
 use lib.Dec.{ltb}
 use Rattle.entries.specs.Entry.{beginIn}
 use Rattle.entries.specs.Least.{least}
-use Rattle.entries.specs.Order.{upto}
+use Rattle.compare.specs.Order.{upto}
 use Rattle.order.specs.declared.Arranged.{Arranged}
 use Rattle.order.specs.declared.Arranged.the-variants.{NoRoom, Done}
 

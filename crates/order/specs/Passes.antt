@@ -6,7 +6,7 @@ use mathlib.Core.List.{List, _++_}
 use lib.ListN.{length, take, drop, getD}
 use lib.Dec.{ltb}
 use Rattle.entries.specs.Entry.{beginIn}
-use Rattle.entries.specs.Order.{upto}
+use Rattle.compare.specs.Order.{upto}
 use Rattle.entries.specs.Least.{isFirst, lesser, least}
 use Rattle.order.specs.Arranged.{ordered, before}
 use Rattle.order.specs.Sorted.{Sorted}

@@ -3,7 +3,7 @@ use Prim.Native.Nat.{ℕ}
 use mathlib.Core.Path.{_≡_}
 use mathlib.Core.Bool.{true}
 use mathlib.Core.List.{List, [], _∷_}
-use Rattle.entries.specs.Order.{upto}
+use Rattle.compare.specs.Order.{upto}
 
 -- x is up to each of them
 abbrev pub Below : List ℕ → ℕ → List ℕ → Type 0

@@ -32,7 +32,7 @@ fn is_second<'a>(part: &'a [u8], table: &'a [u64], x: u64, at: usize, n: usize) 
     if n <= at {
         return false;
     }
-    !entries::is_upto(part, x, table[at])
+    !compare::is_upto(part, x, table[at])
 }
 
 // Two sorted runs become one, from the front: m entries that stand in the room, and those from m to n.
@@ -59,7 +59,7 @@ fn join(part: &[u8], table: &mut [u64], m: usize, n: usize, room: usize)
     requires { ⌜ (0 < m) × (m < n) × Holds (now table) n room ⌝ }
     ensures { λ _. ⌜ Joins (now (part .entry)) m n room (now (table .entry)) (now (table .exit)) ⌝ }
 {
-    if entries::is_upto(part, table[m - 1], table[m]) {
+    if compare::is_upto(part, table[m - 1], table[m]) {
         return;
     }
     copy(table, m, room);
@@ -84,7 +84,7 @@ fn sort(part: &[u8], table: &mut [u64], n: usize, room: usize)
 fn next_least(part: &[u8], x: u64, y: u64, least: usize) -> usize
     ensures { λ r. ⌜ r ≡ leastNext (now (part .entry)) x y least ⌝ }
 {
-    if entries::is_first(part, x, y) {
+    if pairs::is_first(part, x, y) {
         let begin = entries::begin_of(y);
         if begin < least {
             return begin;

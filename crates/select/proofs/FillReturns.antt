@@ -133,7 +133,8 @@ module _ (o : Source) (s t t₁ : List ℕ) (x : Filled) (w : Fills (entriesOf o
   passed h r e t₂ i = go (rw h at w)
     where
       go : Fills (entriesOf o s) t t₁ F.More → _≡_ {A = Searched} (record { answer = r; table = t₂ }) (searched o s t)
-      go v = rw (e, i, v .1, lt-leb (length (entriesOf o s)) (length t) (v .0)) (ap (λ (u : List ℕ). record { answer = firstTwin o s; table = u }) (zeros-all t))
+      go v = rw (e, i, v .1, lt-leb (length (entriesOf o s)) (length t) (v .0))
+          (ap (λ (u : List ℕ). record { answer = firstTwin o s; table = u }) (zeros-all t))
 
   module _ (n : ℕ) (h : x ≡ F.All n) (y : Divided) (t₂ : List ℕ) (e : _≡_ {A = Afterwards} (record { answer = y; table = t₂ }) (divided s t₁ n)) where
     all : Fills (entriesOf o s) t t₁ (F.All n)

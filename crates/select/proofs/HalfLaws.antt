@@ -7,12 +7,12 @@ use mathlib.Core.List.{List, [], _∷_, _++_, append-assoc}
 use lib.ListN.{length, take, drop, getD}
 use lib.Seq.{split-at, take-suc}
 use Rattle.number.proofs.Clash.{clash}
-use Rattle.entries.specs.declared.Order.the-variants as O
+use Rattle.compare.specs.declared.Order.the-variants as O
 use Rattle.entries.specs.Entry.{nameIn}
-use Rattle.entries.specs.Order.{order}
+use Rattle.compare.specs.Order.{order}
 use Rattle.entries.specs.Among.{In, here, there}
 use Rattle.order.specs.Sorted.{Below, Sorted}
-use Rattle.entries.proofs.OrderLaws.{Upto, less, same, upto-is, order-not, order-trans}
+use Rattle.compare.proofs.OrderLaws.{Upto, less, same, upto-is, order-not, order-trans}
 use Rattle.order.proofs.SortedLaws.{below-in}
 use Rattle.entries.proofs.Perms.{in-left, in-last, in-cases}
 use Rattle.order.proofs.NeighbourLaws.{sorted-last, sorted-left}

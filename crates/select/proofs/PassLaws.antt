@@ -10,16 +10,16 @@ use lib.Seq.{take-suc-set}
 use lib.Dec.{ltb}
 use borrow.Author.Tests.{ltb-true, ltb-false}
 use Rattle.number.proofs.Clash.{clash}
-use Rattle.entries.specs.declared.Order.{Order}
-use Rattle.entries.specs.declared.Order.the-variants as O
+use Rattle.compare.specs.declared.Order.{Order}
+use Rattle.compare.specs.declared.Order.the-variants as O
 use Rattle.order.specs.declared.Arranged.{Arranged}
 use Rattle.order.specs.declared.Arranged.the-variants as A
 use Rattle.entries.specs.Entry.{beginIn, nameIn}
 use Rattle.entries.specs.Least.{isFirst, lesser, least}
 use Rattle.order.specs.Arranged.{afterwards, arranged}
 use Rattle.entries.specs.Among.{In, here, there}
-use Rattle.entries.specs.Order.{order}
-use Rattle.entries.proofs.OrderLaws.{order-same, order-refl, order-flip, order-trans, order-not}
+use Rattle.compare.specs.Order.{order}
+use Rattle.compare.proofs.OrderLaws.{order-same, order-refl, order-flip, order-trans, order-not}
 use Rattle.entries.proofs.LeastLaws.{first-is, lesser-left, lesser-right, lesser-both, least-bound, least-over, least-pair, least-more}
 use Rattle.entries.proofs.Perms.{in-left, in-last, in-cases}
 use Rattle.select.specs.declared.Bound.{Bound}

@@ -17,7 +17,7 @@ use Rattle.frames.specs.FramePieces.{writable}
 use Rattle.passing.specs.Pass.{passOver}
 use Rattle.passing.specs.FrameNames as frames
 use Rattle.entries.specs.Entry.{bytesAt, halfAt, markOf, entryOf}
-use Rattle.entries.specs.Order.{order}
+use Rattle.compare.specs.Order.{order}
 use Rattle.entries.specs.Least.{isFirst, isTwin, leastOf}
 use Rattle.select.specs.declared.Source.the-variants.{Fields, Frames}
 use Rattle.select.specs.declared.Bound.the-variants as B

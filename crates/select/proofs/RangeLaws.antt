@@ -7,11 +7,11 @@ use mathlib.Core.List.{List}
 use lib.Dec.{leb}
 use borrow.Author.Tests.{leb-false, lt-leb}
 use Rattle.number.proofs.Clash.{clash}
-use Rattle.entries.specs.declared.Order.{Order}
-use Rattle.entries.specs.declared.Order.the-variants as O
+use Rattle.compare.specs.declared.Order.{Order}
+use Rattle.compare.specs.declared.Order.the-variants as O
 use Rattle.entries.specs.Entry.{beginIn, nameIn}
-use Rattle.entries.specs.Order.{order, isUpto}
-use Rattle.entries.proofs.OrderLaws.{order-same, order-refl, order-trans}
+use Rattle.compare.specs.Order.{order, isUpto}
+use Rattle.compare.proofs.OrderLaws.{order-same, order-refl, order-trans}
 use Rattle.select.specs.declared.Bound.{Bound}
 use Rattle.select.specs.declared.Bound.the-variants as B
 use Rattle.select.specs.Range.{isMore, above, upTo, wanted}

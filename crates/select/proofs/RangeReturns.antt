@@ -9,10 +9,10 @@ use Rattle.names.specs.declared.Name.{Name}
 use Rattle.names.specs.declared.Name.the-variants as N
 use Rattle.names.specs.FieldNames.{nameAt}
 use Rattle.passing.specs.FrameNames as frames
-use Rattle.entries.specs.declared.Order.{Order}
-use Rattle.entries.specs.declared.Order.the-variants as O
+use Rattle.compare.specs.declared.Order.{Order}
+use Rattle.compare.specs.declared.Order.the-variants as O
 use Rattle.entries.specs.Entry.{beginIn, nameIn}
-use Rattle.entries.specs.Order.{order, isUpto}
+use Rattle.compare.specs.Order.{order, isUpto}
 use Rattle.select.specs.declared.Source.{Source}
 use Rattle.select.specs.declared.Source.the-variants as S
 use Rattle.select.specs.declared.Bound.{Bound}

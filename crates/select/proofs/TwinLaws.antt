@@ -74,7 +74,8 @@ module _ (s : List ℕ) where
   pair-twins m (y ∷ es) a x e i j l h =
       in-first x y es i
       (λ d. in-first e y es j (λ c. absurd (let z : x ≡ e = d ∙ sym c in let w : beginIn x ≡ beginIn e = ap beginIn z in omega arith))
-      (λ k. or-left (any (equal (bytesIn s y)) (names es)) (twins (names es)) (in-any (bytesIn s y) k (ap (λ (n : ℕ). equal (bytesIn s n) (bytesIn s e)) (sym d) ∙ h))))
+      (λ k. or-left (any (equal (bytesIn s y)) (names es)) (twins (names es))
+      (in-any (bytesIn s y) k (ap (λ (n : ℕ). equal (bytesIn s n) (bytesIn s e)) (sym d) ∙ h))))
       (λ k. in-first e y es j
       (λ c. absurd (let w = ascends-in (suc (beginIn y)) (a .1) k in let v : beginIn e ≡ beginIn y = ap beginIn c in omega arith))
       (λ q. or-right (any (equal (bytesIn s y)) (names es)) (twins (names es)) (pair-twins (suc (beginIn y)) es (a .1) x e k q l h)))

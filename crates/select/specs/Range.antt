@@ -3,10 +3,10 @@ use Prim.Native.Nat.{ℕ}
 use mathlib.Core.Bool.{Bool, true, false, _&&_, cond}
 use mathlib.Core.List.{List}
 use lib.Dec.{leb}
-use Rattle.entries.specs.declared.Order.{Order}
-use Rattle.entries.specs.declared.Order.the-variants as O
+use Rattle.compare.specs.declared.Order.{Order}
+use Rattle.compare.specs.declared.Order.the-variants as O
 use Rattle.entries.specs.Entry.{beginIn, nameIn}
-use Rattle.entries.specs.Order.{order, isUpto}
+use Rattle.compare.specs.Order.{order, isUpto}
 use Rattle.select.specs.declared.Bound.{Bound}
 use Rattle.select.specs.declared.Bound.the-variants as B
 

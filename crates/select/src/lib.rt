@@ -1,8 +1,8 @@
 // Where the first name begins that stands a second time, among names that stand in a part one after another: of as many names as there are, in a table of
 // any length. If it holds them all, they are divided at once; else the first of them are, and if none of these stands twice, each pass over the part takes the
 // least names that are above those of the passes before, as many as the table holds, and arranges them.
+use compare::Order;
 use divide::Divided;
-use entries::Order;
 use format::Form;
 use names::Name;
 use order::Arranged;
@@ -52,7 +52,7 @@ fn is_above(part: &[u8], low: Bound, x: u64) -> bool
 {
     match low {
         Bound::Open => true,
-        Bound::At(y) => match entries::compare(part, x, y) {
+        Bound::At(y) => match compare::compare(part, x, y) {
             Order::Less => false,
             Order::Same => false,
             Order::More => true,
@@ -65,7 +65,7 @@ fn is_upto(part: &[u8], high: Bound, x: u64) -> bool
 {
     match high {
         Bound::Open => true,
-        Bound::At(y) => match entries::compare(part, x, y) {
+        Bound::At(y) => match compare::compare(part, x, y) {
             Order::Less => true,
             Order::Same => true,
             Order::More => false,

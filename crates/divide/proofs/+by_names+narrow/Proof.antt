@@ -10,7 +10,7 @@ use Rattle.divide.proofs.+by_names+narrow.Lts-narrow as narrow-lts
 use Rattle.divide.proofs.halve.Reads as halve-reads
 use Rattle.divide.proofs.range_of.Reads as range-of-reads
 use Rattle.tables.proofs.second.Reads as second-reads
-use Rattle.entries.proofs.first_twin.Reads as first-twin-reads
+use Rattle.pairs.proofs.first_twin.Reads as first-twin-reads
 use Rattle.entries.proofs.lesser.Reads as lesser-reads
 use Rattle.divide.proofs.+by_names+narrow.{statement}
 use Rattle.divide.proofs.+by_names+narrow.Tie.{close}

@@ -1,7 +1,7 @@
 use borrow.Author.Needs.{needs}
 use Rattle.entries.proofs.lesser.Statement.{statement}
 use Rattle.entries.proofs.lesser.Tie as tie
-use Rattle.entries.proofs.PairReturns.{lesser-first, lesser-second}
+use Rattle.entries.proofs.LeastLaws.{lesser-first, lesser-second}
 
 ruleset laws = (lesser-first, lesser-second, needs)
 

@@ -1,0 +1,4 @@
+pub mod OrderLaws
+mod CompareReturns
+pub mod PinnedCompare
+pub mod OneAnswer

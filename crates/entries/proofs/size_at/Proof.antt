@@ -1,9 +1,0 @@
-use borrow.Author.Needs.{needs}
-use Rattle.entries.proofs.size_at.Statement.{statement}
-use Rattle.entries.proofs.size_at.Tie as tie
-use Rattle.entries.proofs.CompareReturns.{size-out, size-in}
-
-ruleset laws = (size-out, size-in, needs)
-
-pub size-at-spec : {M : Type 1} → statement M
-size-at-spec = tie.close (tie.spec (λ c. search laws) (λ c. search laws) (λ c. search laws))

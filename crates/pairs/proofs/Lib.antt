@@ -1,0 +1,2 @@
+mod PairReturns
+pub mod OneAnswer
