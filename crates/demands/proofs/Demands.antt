@@ -108,8 +108,8 @@ use Rattle.frames.proofs.Refusals as frames
 --   frame::kind_of, name_of, name_at, name_end, front_at, leaf_of, leaf_at, leaf_end, bits_of; open::open_place; settle::decided; measure::measure;
 --   output::copy, bits_at, final_id;
 --   replies::number_of, varuint, double, signed, unsigned, ticks;
--- contents::close, end_object, end_array, item_size, check_sizes; checks::check; named::check, check_with; place_replies::after_of, checked, top, step,
--- part, found;
+--   contents::close, end_object, end_array, item_size, check_sizes; checks::check; named::check, check_with;
+--   place_replies::after_of, checked, top, step, part, found;
 --   basic_calls::varuint, is_text, are_equal, float32_holds; place_calls::check, top, step, view, lookup; value_calls::double, signed, unsigned, ticks;
 --   sending::send
 -- ajuqvane_write_list is the program: it reads, calls `hexadecimal::feed` and `answers::answer`, and writes; no contract can say what is read or written.
