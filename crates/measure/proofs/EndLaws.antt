@@ -102,6 +102,7 @@ module _ (d : ℕ) (s : List ℕ) (at before k : ℕ) (v v′ : List ℕ) (m : M
         after : List ℕ
         after = twinBy d s at t notes reach .table ++ drop (roomFor (length t) (heldIn notes) reach) t
 
-        some : (o : Bool) → ltb 0 reach ≡ o → r ≡ cond o (ending (twinMeasured d s at begins m) after) (ending m t) .answer → ContentsAt d s at before true k v v′ r
+        some : (o : Bool) → ltb 0 reach ≡ o → r ≡ cond o (ending (twinMeasured d s at begins m) after) (ending m t) .answer
+            → ContentsAt d s at before true k v v′ r
         some true b j = twin (ltb-true 0 reach b) (ltb begins 16777216) refl j
         some false b j = rw j (same-all (ended-none d (drop at s) part-short reach (w .es) (w .ended) (let q = ltb-false 0 reach b in omega arith)))

@@ -109,13 +109,22 @@ module _ {d : ℕ} {s : List ℕ} {at : ℕ} {named : Bool} {k : ℕ} {w₀ w : 
     loops.loop-lent d s at named k w₀ w p j n sum c (st .loop) (st .lent),
   )
 
+  pub met-next : Fits w64 (p + 1)
+  met-next = record { fits = omega (arith, g .more, st .lent .short) }
+
+  pub met-after : p + 1 ≤ start
+  met-after = omega (arith, met-payload .0)
+
   -- a leaf
   module _ {x : LeafFrame} (ex : x ≡ leafFrameAt kind s start) {b : Bool} (eb : b ≡ isLeaf kind) (ib : b ≡ true) where
     pub met-leaf : PayloadAt (d - 1) s p start kind j w w (leafMeasured p (start - (p + 1)) j x)
     met-leaf = leaf-is (d - 1) s p start kind j met-payload x ex (plain-told kind b eb ib) (start - (p + 1)) refl w _ refl
 
-    pub leaf-size : {e i z : ℕ} → x ≡ L.Read e i z → start - (p + 1) + z ≤ 1048576
-    leaf-size h = rw h at (leaf-sum (d - 1) s p start kind j met-payload x ex (plain-told kind b eb ib) (start - (p + 1)) refl)
+    pub leaf-fits : {e i z : ℕ} → x ≡ L.Read e i z → Fits w64 (start - (p + 1) + z)
+    leaf-fits {e} {i} {z} h =
+        let l : start - (p + 1) + z ≤ 1048576 =
+        rw h at (leaf-sum (d - 1) s p start kind j met-payload x ex (plain-told kind b eb ib) (start - (p + 1)) refl) in
+        record { fits = omega arith }
 
   -- measured, with its payload
   module _ {m : Measured} {w′ : List ℕ} (q : PayloadAt (d - 1) s p start kind j w w′ m) where

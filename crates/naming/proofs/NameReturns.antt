@@ -47,7 +47,7 @@ module _ (s : List ℕ) (at from : ℕ) (e : from ≡ lesser at (length s)) wher
   -- a frame of the object stands in the list
   pub place-sum : (d g p : ℕ) → p ≡ framePlace d (take (length s - from) (drop from s)) g → from + p ≤ length s
   place-sum d g p q =
-      omega (arith, place-inside d (take (length s - from) (drop from s)) g, ap length part-is, length-drop at s, ap length (sym part-is), less-it at (length s) from e, go)
+      omega (arith, place-inside d (take (length s - from) (drop from s)) g, ap length part-is, go)
     where
       go : from + length (drop at s) ≤ length s
       go = rw (length-drop at s, e) (by (ltb at (length s)) refl)
@@ -67,7 +67,8 @@ module _ (s : List ℕ) (at from : ℕ) (e : from ≡ lesser at (length s)) wher
 
   module _ (d : ℕ) (t : List ℕ) (notes : Notes) (reach : ℕ) (m : Measured) (nz : reach ≡ 0 → ⊥) (held : ℕ) (v : held ≡ heldIn notes) (room : ℕ)
       (u : room ≡ roomFor (length t) held reach) (g : ℕ) (y : List ℕ)
-      (h : _≡_ {A = Searched} (record { answer = g; table = y }) (told (S.Frames d (reach - 1)) (take (length s - from) (drop from s)) (take room t) notes)) where
+      (h : _≡_ {A = Searched} (record { answer = g; table = y }) (told (S.Frames d (reach - 1)) (take (length s - from) (drop from s))
+      (take room t) notes)) where
     room-is : roomFor (length t) (heldIn notes) reach ≡ room
     room-is = sym (u ∙ ap (λ (n : ℕ). roomFor (length t) n reach) v)
 

@@ -19,5 +19,5 @@ note-spec =
     (λ c κs. search needs)
     (λ c. search needs)
     (λ c. let n = c .before .before .before .before .before in let f = n .before .before .before in let s = f .before .before .before in
-    note-is (s .args .list .now) (s .args .at) _ (f .lesser .ensures) (s .args .table .now) (s .args .notes) _ _ _ _ _ (n .before .lesser2 .ensures) (n .lesser3 .ensures)
-    (c .before .before .before .entry .ensures) _ _ (c .before .before .add .ensures)))
+    note-is (s .args .list .now) (s .args .at) _ (f .lesser .ensures) (s .args .table .now) (s .args .notes) _ _ _ _ _
+    (n .before .lesser2 .ensures) (n .lesser3 .ensures) (c .before .before .before .entry .ensures) _ _ (c .before .before .add .ensures)))

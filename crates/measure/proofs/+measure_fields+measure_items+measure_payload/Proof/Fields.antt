@@ -19,7 +19,7 @@ use Rattle.run.proofs.join.Reads as join-reads
 use Rattle.measure.proofs.+measure_fields+measure_items+measure_payload.Proof.Levels.{measure-fields-at, measure-payload-below}
 use Rattle.measure.proofs.NameLaws.{NamesRead, names-start}
 use Rattle.measure.proofs.LoopReturns.{Standing, standing-starts, stands-few, stands-next, stands-low, stands-more, more-sum, more-less}
-use Rattle.measure.proofs.LoopReturns.{Met, met, met-deep, met-payload, met-leaf, leaf-size, leaf-bad, leaf-good}
+use Rattle.measure.proofs.LoopReturns.{Met, met, met-deep, met-payload, met-next, met-after, met-leaf, leaf-fits, leaf-bad, leaf-good}
 use Rattle.measure.proofs.LoopReturns.{fields-end, fields-closed, fields-close, fields-barred, fields-bad, fields-cut}
 use Rattle.measure.proofs.LoopReturns.{names-next, noted, met-held, met-scaled, same-table, names-over}
 
@@ -70,27 +70,30 @@ fields-pass t =
     measure-fields-lts.spec (claims t) (measure-fields-at t) measure-fields.Post Inv-loop μ-loop
     (λ c. search needs)
     (λ c. search starts)
-    (λ c. search needs)
+    (λ c. c .before .loop-test .taken)
     (λ c κs. stands-few (c .before .before .before .before .loop .inv .2) (c .before .before .before .before .before .before .before .before .pre .1 .1))
-    (λ c. search needs)
-    (λ c. search needs)
+    (λ c. c .before .before .before .before .before .before .before .before .loop .inv .0)
+    (λ c. c .before .before .before .closed .kept .1 .1 .1 .1 .1 .1 .0 ∙ c .before .before .before .before .before .before .before .before .loop .inv .1)
     (λ c. let d = c .before .before .before in let e = d .before .before .before .before .before in fields-closed (e .loop .inv .2) (e .loop .inv .3)
     (d .before .before .before .before .loop-test .taken) (d .before .before .if1 .taken) (d .closed .ensures) (c .if2 .taken))
     (λ c κs. search needs)
-    (λ c. search needs)
-    (λ c. search needs)
+    (λ c. c .before .before .ended .kept .1 .1 .0 ∙
+    c .before .before .before .before .before .before .before .before .before .before .before .before .loop .inv .0)
+    (λ c. c .before .before .before .before .before .before .before .closed .kept .1 .1 .1 .1 .1 .1 .0 ∙
+    c .before .before .before .before .before .before .before .before .before .before .before .before .loop .inv .1)
     (λ c. let d = c .before .before .before .before .before .before .before in let e = d .before .before .before .before .before in fields-close
     (e .loop .inv .2) (e .loop .inv .3) (d .before .before .before .before .loop-test .taken) (d .before .before .if1 .taken) (d .closed .ensures)
     (c .before .before .ended .ensures))
     (λ c κs. search needs)
     (λ c. search needs)
-    (λ c. search needs)
-    (λ c. search needs)
+    (λ c. c .before .before .before .before .before .before .before .before .loop .inv .0)
+    (λ c. c .before .before .before .before .before .before .before .before .loop .inv .1)
     (λ c. let f = c .before .before .before .before in let e = f .before .before .before .before in fields-barred (e .loop .inv .2) (e .loop .inv .3)
     (f .before .before .before .loop-test .taken) (f .before .if1 .left) (f .front-at .ensures) (c .before .before .refusal .given .1) (c .if3 .taken))
     (λ c κs. search needs)
-    (λ c. search needs)
-    (λ c. search needs)
+    (λ c. c .before .before .ended2 .kept .1 .1 .0 ∙
+    c .before .before .before .before .before .before .before .before .before .before .before .before .loop .inv .0)
+    (λ c. c .before .before .before .before .before .before .before .before .before .before .before .before .loop .inv .1)
     (λ c. let f = c .before .before .before .before .before .before .before .before in let e = f .before .before .before .before in fields-bad
     (e .loop .inv .2) (e .loop .inv .3) (f .before .before .before .loop-test .taken) (f .before .if1 .left) (f .front-at .ensures)
     (c .before .before .before .before .before .before .refusal .given .1) (c .before .before .ended2 .ensures))
@@ -113,12 +116,10 @@ fields-pass t =
     (n .note .ensures) in fields-cut g o (met-leaf g (l .leaf-at .ensures) (l .before .before .is-leaf .ensures) (l .before .if4 .taken)) (leaf-bad _ _ _
     (c .before .before .before .before .before .refusal2 .given .1)) (c .before .before .ended3 .ensures))
     (λ c. search needs)
-    (λ c. search needs)
-    (λ c. omega (arith, met-payload (met-at t (c .before .before .before .before .before .before .before .before .before .before .before)) .0))
-    (λ c. let l = c .before .before .before in let g = met-at t (l .before .before .before .before .before .before .before .before) in omega (
-      arith,
-      leaf-size g (l .leaf-at .ensures) (l .before .before .is-leaf .ensures) (l .before .if4 .taken) (c .before .end .given .1),
-    ))
+    (λ c. met-next (met-at t (c .before .before .before .before .before .before .before .before .before .before .before)))
+    (λ c. met-after (met-at t (c .before .before .before .before .before .before .before .before .before .before .before)))
+    (λ c. let l = c .before .before .before in let g = met-at t (l .before .before .before .before .before .before .before .before) in leaf-fits g
+    (l .leaf-at .ensures) (l .before .before .is-leaf .ensures) (l .before .if4 .taken) (c .before .end .given .1))
     (λ c. let l = c .before .before .before in let g = met-at t (l .before .before .before .before .before .before .before .before) in more-sum g (met-leaf g
     (l .leaf-at .ensures) (l .before .before .is-leaf .ensures) (l .before .if4 .taken)) (leaf-good _ _ _ (c .before .end .given .1)))
     (λ c κs. search needs)
@@ -186,7 +187,7 @@ fields-pass t =
           (m .measure-payload .kept .1 .1 .1 .1 .0)) q b,
     ))
     (λ c κs. search needs)
-    (λ c. search needs)
-    (λ c. search needs)
+    (λ c. c .before .before .ended5 .kept .1 .1 .0 ∙ c .before .before .before .before .before .loop .inv .0)
+    (λ c. c .before .before .before .before .before .loop .inv .1)
     (λ c. let e = c .before .before .before .before .before in fields-end (e .loop .inv .2) (e .loop .inv .3)
     (c .before .before .before .before .loop-test .left) (c .before .before .ended5 .ensures))

@@ -15,7 +15,7 @@ use Rattle.measure.proofs.is_leaf.Reads as is-leaf-reads
 use Rattle.run.proofs.join.Reads as join-reads
 use Rattle.measure.proofs.+measure_fields+measure_items+measure_payload.Proof.Levels.{measure-items-at, measure-payload-below}
 use Rattle.measure.proofs.LoopReturns.{Standing, standing-starts, stands-few, stands-next, stands-more, more-sum, more-less}
-use Rattle.measure.proofs.LoopReturns.{Met, met, met-deep, met-payload, met-leaf, leaf-size, leaf-bad, leaf-good}
+use Rattle.measure.proofs.LoopReturns.{Met, met, met-deep, met-payload, met-next, met-after, met-leaf, leaf-fits, leaf-bad, leaf-good}
 use Rattle.measure.proofs.LoopReturns.{items-end, items-close, items-bad, items-cut}
 
 ruleset starts = (standing-starts, needs)
@@ -57,16 +57,16 @@ items-pass t =
     measure-items-lts.spec (claims t) (measure-items-at t) measure-items.Post Inv-loop μ-loop
     (λ c. search needs)
     (λ c. search starts)
-    (λ c. search needs)
+    (λ c. c .before .loop-test .taken)
     (λ c κs. stands-few (c .before .before .before .before .loop .inv .2) (c .before .before .before .before .before .before .before .before .pre .1 .1))
-    (λ c. search needs)
-    (λ c. search needs)
+    (λ c. c .before .before .before .before .before .before .before .loop .inv .0)
+    (λ c. c .before .before .closed .kept .1 .1 .1 .1 .1 .1 .0 ∙ c .before .before .before .before .before .before .before .loop .inv .1)
     (λ c. let d = c .before .before in items-close (d .before .before .before .before .before .loop .inv .2)
     (d .before .before .before .before .loop-test .taken) (d .before .before .if1 .taken) (d .closed .ensures))
     (λ c κs. search needs)
     (λ c. search needs)
-    (λ c. search needs)
-    (λ c. search needs)
+    (λ c. c .before .before .before .before .before .before .before .loop .inv .0)
+    (λ c. c .before .before .before .before .before .before .before .loop .inv .1)
     (λ c. let f = c .before .before .before in items-bad (f .before .before .before .before .loop .inv .2) (f .before .before .before .loop-test .taken)
     (f .before .if1 .left) (f .front-at .ensures) (c .before .refusal .given .1))
     (λ c. search needs)
@@ -74,18 +74,15 @@ items-pass t =
     (λ c κs. search needs)
     (λ c κs. search needs)
     (λ c. search needs)
-    (λ c. search needs)
-    (λ c. search needs)
+    (λ c. c .before .before .before .before .before .before .before .before .before .before .before .before .before .loop .inv .0)
+    (λ c. c .before .before .before .before .before .before .before .before .before .before .before .before .before .loop .inv .1)
     (λ c. let l = c .before .before .before in let g = met-at t (l .before .before .before .before) in items-cut g (met-leaf g (l .leaf-at .ensures)
     (l .before .before .is-leaf .ensures) (l .before .if2 .taken)) (leaf-bad _ _ _ (c .before .refusal2 .given .1)))
     (λ c. search needs)
-    (λ c. search needs)
-    (λ c. omega (arith, met-payload (met-at t (c .before .before .before .before .before .before .before)) .0))
-    (λ c. let l = c .before .before .before in let g = met-at t (l .before .before .before .before) in omega (
-      arith,
-      leaf-size g (l .leaf-at .ensures)
-          (l .before .before .is-leaf .ensures) (l .before .if2 .taken) (c .before .end .given .1),
-    ))
+    (λ c. met-next (met-at t (c .before .before .before .before .before .before .before)))
+    (λ c. met-after (met-at t (c .before .before .before .before .before .before .before)))
+    (λ c. let l = c .before .before .before in let g = met-at t (l .before .before .before .before) in leaf-fits g (l .leaf-at .ensures)
+    (l .before .before .is-leaf .ensures) (l .before .if2 .taken) (c .before .end .given .1))
     (λ c. let l = c .before .before .before in let g = met-at t (l .before .before .before .before) in more-sum g (met-leaf g (l .leaf-at .ensures)
     (l .before .before .is-leaf .ensures) (l .before .if2 .taken)) (leaf-good _ _ _ (c .before .end .given .1)))
     (λ c κs. search needs)
@@ -123,6 +120,6 @@ items-pass t =
       stands-more g
           (m .measure-payload .ensures) (c .before .before .next .given .1) (c .join2 .ensures),
     ))
-    (λ c. search needs)
-    (λ c. search needs)
+    (λ c. c .before .loop .inv .0)
+    (λ c. c .before .loop .inv .1)
     (λ c. items-end (c .before .loop .inv .2) (c .loop-test .left))
