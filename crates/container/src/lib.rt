@@ -9,7 +9,7 @@ ghost use Rattle.frames.specs.Container.{containerId, typeMark, sharedMark, cou
 ghost use Rattle.container.specs.Numbers.{cleared};
 
 // A work number between the passes is the size, the width of the count below it, and the shared ID below that: what each of the two upper ones is scaled by.
-const SIZE: u32 = 128;
+const SIZE: u32 = 256;
 
 const WIDTH: u32 = 32;
 

@@ -40,32 +40,34 @@ module _ {A : Type 0} (kind : A → Kind) where
       go true h = shared-lt named xs h .1
       go false h = omega arith
 
-  module _ (named : Bool) (xs : List (List ℕ × A)) (z : ℕ) (few : length xs ≤ 65536) where
-    count-lt : length (countPart named (length xs)) < 4
+  module _ (named : Bool) (xs : List (List ℕ × A)) (z : ℕ) (few : length xs ≤ 16777216) where
+    count-lt : length (countPart named (length xs)) < 8
     unfolding countPart encoded
     count-lt = go named
       where
-        three : (n : ℕ) → n ≤ 65536 → suc (length (toBytes (reached bounds n) n)) < 4
-        three n h = rw (to-length (reached bounds n) n) (by (ltb n (2 ^ 7)) (ltb n (2 ^ 14)) (ltb n (2 ^ 21)) (lt-ltb n (2 ^ 21) (omega arith)))
+        four : (n : ℕ) → n ≤ 16777216 → suc (length (toBytes (reached bounds n) n)) < 8
+        four n h = rw (to-length (reached bounds n) n)
+            (by (ltb n (2 ^ 7)) (ltb n (2 ^ 14)) (ltb n (2 ^ 21)) (ltb n (2 ^ 28)) (lt-ltb n (2 ^ 28) (omega arith)))
           where
-            by : (a b c : Bool) → c ≡ true
-                → suc (cond a 0 (suc (cond b 0 (suc (cond c 0 (suc (reached (2 ^ 28 ∷ 2 ^ 35 ∷ 2 ^ 42 ∷ 2 ^ 49 ∷ 2 ^ 56 ∷ []) n))))))) < 4
-            by true b c e = omega arith
-            by false true c e = omega arith
-            by false false true e = omega arith
-            by false false false e = untrue e
+            by : (a b c d : Bool) → d ≡ true
+                → suc (cond a 0 (suc (cond b 0 (suc (cond c 0 (suc (cond d 0 (suc (reached (2 ^ 35 ∷ 2 ^ 42 ∷ 2 ^ 49 ∷ 2 ^ 56 ∷ []) n))))))))) < 8
+            by true b c d e = omega arith
+            by false true c d e = omega arith
+            by false false true d e = omega arith
+            by false false false true e = omega arith
+            by false false false false e = untrue e
 
-        go : (b : Bool) → length (cond b [] (form (reached bounds (length xs)) (length xs))) < 4
+        go : (b : Bool) → length (cond b [] (form (reached bounds (length xs)) (length xs))) < 8
         go true = omega arith
-        go false = three (length xs) few
+        go false = four (length xs) few
 
     pub packed-shared-in : sharedIn (packed named (shared (ids kind xs)) (length xs) z) ≡ cond (uniform named (shared (ids kind xs))) (shared (ids kind xs)) 0
     unfolding packed
     packed-shared-in =
         let w = length (countPart named (length xs)) in
         let l = cond (uniform named (shared (ids kind xs))) (shared (ids kind xs)) 0 in
-        let e : z * sizeRadix + w * widthRadix + l ≡ (z * 4 + w) * widthRadix + l = omega arith in
-        rw e (digits-mod (z * 4 + w) (low-lt named xs))
+        let e : z * sizeRadix + w * widthRadix + l ≡ (z * 8 + w) * widthRadix + l = omega arith in
+        rw e (digits-mod (z * 8 + w) (low-lt named xs))
 
     -- what stands below the size
     low-lt-size : length (countPart named (length xs)) * widthRadix + cond (uniform named (shared (ids kind xs))) (shared (ids kind xs)) 0 < sizeRadix

@@ -17,6 +17,6 @@ pub pack-fits : (r : ℕ) (b : Bool) (c n z : ℕ) → r ≡ packed b c n z → 
 unfolding packed
 pack-fits r b c n z e h l = record { fits = rw e (go (uniform b c)) }
   where
-    go : (u : Bool) → z * 128 + length (countPart b n) * 32 + cond u c 0 < 4294967296
+    go : (u : Bool) → z * 256 + length (countPart b n) * 32 + cond u c 0 < 4294967296
     go true = omega (arith, count-le b n)
     go false = omega (arith, count-le b n)

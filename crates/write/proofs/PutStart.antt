@@ -75,14 +75,14 @@ module _ (d : ℕ) (s : List ℕ) (at : ℕ) (named : Bool) where
     num : Num (getD w k 0) (parts .zs)
     unfolding sharedPart
     num = let q = parts in let zs = q .zs in let z = length (bodyOf d named zs) in
-        let u : uniformIn (getD w k 0) ≡ uniform named (sharedOf d zs) = rw (q .num) (packed-uniform (kindOf d) named zs z (q .few)) in
+        let u : uniformIn (getD w k 0) ≡ uniform named (sharedOf d zs) = rw (q .num) (packed-uniform (kindOf d) named zs z (omega (arith, q .few))) in
         let c : sharedIn (getD w k 0) ≡ cond (uniform named (sharedOf d zs)) (sharedOf d zs) 0 = rw (q .num)
-        (packed-shared-in (kindOf d) named zs z (q .few)) in
+        (packed-shared-in (kindOf d) named zs z (omega (arith, q .few))) in
         record {
-          size = rw (q .num) (packed-size (kindOf d) named zs z (q .few));
+          size = rw (q .num) (packed-size (kindOf d) named zs z (omega (arith, q .few)));
           uni = u;
           width = rw (q .num)
-              (packed-width (kindOf d) named zs z (q .few));
+              (packed-width (kindOf d) named zs z (omega (arith, q .few)));
           byte = rw (u, c) (go (uniform named (sharedOf d zs)) (sharedOf d zs));
         }
       where
