@@ -1,5 +1,5 @@
-// The checks of a field and of the contents of a container where names are not asked about. A field calls the check of its contents, which calls the check of each field in
-// them: the depth left falls.
+// The checks of a field and of the contents of a container where names are not asked about. A field calls the check of its contents, which calls the check
+// of each field in them: the depth left falls.
 use contents::Contents;
 use contents::Field;
 use faults::Faults;

@@ -140,7 +140,8 @@ pub enum Frame {
     },
 }
 
-// The frame at a position of the list, with so many levels left, whatever names were used; inside an object it has a name. Positions in the answer are the list's.
+// The frame at a position of the list, with so many levels left, whatever names were used; inside an object it has a name. Positions in the answer are the
+// list's.
 pub fn front_at(list: &[u8], at: usize, named: bool, left: u32) -> Frame
     ensures { λ r. ⌜ r ≡ frontAt left (now (list .entry)) at named ⌝ }
 {

@@ -66,7 +66,8 @@ sizeBy named c n sum = length (countPart named n) + cond (uniform named c) 1 n +
 
 -- ---- a work number between the passes: the size, the width of the count, and the shared ID, which is 0 if the container is not uniform
 
--- what the size and the width are scaled by: a shared ID is under 32, and the width of a count up to 16,777,216 under 8. So a size under 16,777,216 has its place
+-- what the size and the width are scaled by: a shared ID is under 32, and the width of a count up to 16,777,216 under 8. So a size under 16,777,216 has its
+-- place
 -- in 32 bits
 abbrev pub sizeRadix : ℕ
 sizeRadix = 256

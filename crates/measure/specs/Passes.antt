@@ -71,13 +71,13 @@ PayloadAt d s at start kind k w w′ m =
 abbrev pub FieldAt : (d : ℕ) (s : List ℕ) (at : ℕ) (named : Bool) (k : ℕ) (w w′ : List ℕ) (m : Measured) → Type 0
 FieldAt d s at named k w w′ m = FieldBy d (length s) named k w w′ m (readFrames d (modeOf named []) (drop at s))
 
--- what the pass is lent: a list of bytes that is not too long; there are fewer containers than bytes
+-- what the pass is lent: a list of bytes that is not too long; and the containers that were opened before `at`, of which there are k, took a byte each
 pub record Lent (s : List ℕ) (at k : ℕ) : Type 0 where
   pub bytes : Bytes s
   pub short : length s ≤ 65536
   pub few-numbers : k ≤ at
 
--- a container that is closed at `at`, of whose n fields or items c is shared, and `sum` the size of all: the k-th number is its own
+-- a container that is closed at `at`, of whose n fields or items c is shared, and `sum` what their names and payloads take: the k-th number is its own
 pub record ClosedBy (named : Bool) (c n sum at before k j : ℕ) (w w′ : List ℕ) (m : Measured) : Type 0 where
   pub answer : m ≡ M.Read (at + 1) (containerId named (uniform named c)) (before + (length (encoded (sizeBy named c n sum)) + sizeBy named c n sum)) j
   pub work : w′ ≡ set w k (packed named c n (sizeBy named c n sum))

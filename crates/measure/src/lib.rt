@@ -66,7 +66,7 @@ fn closed(
     }
 }
 
-// Neither an object nor an array.
+// A kind of the write list that opens no container.
 fn is_leaf(kind: Kind) -> bool
     ensures { λ r. ⌜ r ≡ isLeaf kind ⌝ }
 {

@@ -289,8 +289,8 @@ pub fn check(payload: &[u8], modes: Modes) -> Field
 }
 
 // The same with a table that is lent, of any length; it holds zeros afterwards. The names of an object are looked at once, if there are at most 16 of them or
-// they ascend. Else they are looked at once more, if the table has a number for each of them behind the notes of the objects around it, which take up to 16 each;
-// with a shorter table, again for each part of them that it holds, and with next to none, for each part that 64 numbers hold.
+// they ascend. Else they are looked at once more, if the table has a number for each of them behind the notes of the objects around it, which take up to 16
+// each; with a shorter table, again for each part of them that it holds, and with next to none, for each part that 64 numbers hold.
 pub fn check_with(payload: &[u8], modes: Modes, table: &mut [u64]) -> Field
     ensures { λ r. ⌜ record { answer = r; table = now (table .exit) } ≡ topWith modes (now (payload .entry)) (now (table .entry)) ⌝ }
 {

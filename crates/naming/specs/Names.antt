@@ -23,11 +23,11 @@ notedBy s at t notes b e = added (drop at s) t notes (entryOf (drop at s) (b - a
 abbrev pub twinMeasured : ℕ → List ℕ → ℕ → ℕ → Measured → Measured
 twinMeasured d s at g m = cond (ltb g 16777216) (M.Refused NameUsed (lesser at (length s) + framePlace d (drop at s) g)) m
 
--- how many of `total` numbers are lent for that: two for each name, which takes three bytes at least; and those that are held
+-- how many of `total` numbers are lent for the search: one for each byte up to the last frame, which is more than there are names; and those that are held
 unfoldable pub roomFor : ℕ → ℕ → ℕ → ℕ
 roomFor total held reach = cond (ltb held reach) (lesser total reach) (lesser total held)
 
--- where the first twin begins, and what is lent
+-- where the first twin begins, and what the numbers that were lent hold then
 abbrev pub twinBy : ℕ → List ℕ → ℕ → List ℕ → Notes → ℕ → Searched
 twinBy d s at t notes reach = told (S.Frames d (reach - 1)) (drop at s) (take (roomFor (length t) (heldIn notes) reach) t) notes
 

@@ -8,7 +8,7 @@ ghost use mathlib.Core.Path.{_≡_};
 ghost use Rattle.notes.specs.Notes.{noting};
 ghost use Rattle.naming.specs.Names.{notedBy, roomFor, ending, endedBy};
 
-// The name of a frame, which stands from one position to another. The object's frames begin at `at`.
+// The name of a frame of the object whose frames begin at `at`: it stands from one position to another behind that.
 pub fn note(
     list: &[u8],
     at: usize,
@@ -26,7 +26,8 @@ pub fn note(
     notes::add(part, table, notes, entries::entry(part, first, last))
 }
 
-// How much of a table the names of frames that begin before `reach` need: two numbers for each, which takes three bytes at least; and the notes.
+// How many numbers of a table are lent for the names of frames that begin before `reach`: one for each byte, which is more than there are names; and the
+// notes.
 fn room_for(numbers: usize, held: usize, reach: usize) -> usize
     ensures { λ r. ⌜ r ≡ roomFor numbers held reach ⌝ }
 {
@@ -36,7 +37,8 @@ fn room_for(numbers: usize, held: usize, reach: usize) -> usize
     entries::lesser(numbers, held)
 }
 
-// What the object comes to, once its frames were noted that begin less than `reach` behind the first: refused for a name, or what was measured.
+// What the object comes to, once the names of its frames were noted that begin less than `reach` behind the first: refused for a name, or what was
+// measured, which is not refused before the last of these frames. With `reach` 0 there was no frame. `left` levels are left.
 pub fn ended(
     list: &[u8],
     at: usize,

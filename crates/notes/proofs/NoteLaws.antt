@@ -45,7 +45,8 @@ from-last s x [] y z = go (ascends s x y) (ascends s y z)
     go true true = refl
     go true false = refl
     go false b = refl
-from-last s x (u ∷ us) y z = go (ascends s x u) (risesFrom s u ((us ++ (y ∷ [])) ++ (z ∷ []))) (risesFrom s u (us ++ (y ∷ []))) (ascends s y z) (from-last s u us y z)
+from-last s x (u ∷ us) y z = go (ascends s x u) (risesFrom s u ((us ++ (y ∷ [])) ++ (z ∷ []))) (risesFrom s u (us ++ (y ∷ []))) (ascends s y z)
+    (from-last s u us y z)
   where
     go : (a b c d : Bool) → b ≡ c && d → a && b ≡ (a && c) && d
     go true b c d e = e
@@ -140,7 +141,8 @@ pub noted-more : (s es t : List ℕ) (n : Notes) (x : ℕ) → Noted s es t n �
 noted-more s es t (Few n) x w = go (ltb n (lesser 16 (length t))) refl
   where
     go : (b : Bool) → ltb n (lesser 16 (length t)) ≡ b
-        → let o = cond b (noting (Few (n + 1)) (set t n x)) (noting (risen (rises s (take n t ++ (x ∷ []))) x) t) in Noted s (es ++ (x ∷ [])) (o .table) (o .notes)
+        → let o = cond b (noting (Few (n + 1)) (set t n x)) (noting (risen (rises s (take n t ++ (x ∷ []))) x) t) in Noted s (es ++ (x ∷ [])) (o .table)
+        (o .notes)
     go true h =
         let l : n < length t = omega (arith, ltb-true n (lesser 16 (length t)) h, lesser-right 16 (length t)) in
         (omega (arith, length-set t n x), rw (add-one n, take-suc-set t n x l, w .1))
@@ -166,7 +168,8 @@ told-length o s t (Rising y) = refl
 told-length o s t Many = go (leb (length (entriesOf o s)) (length t)) refl
   where
     by : (n : ℕ) → n ≤ length t → length (zeroed n t) ≡ length t
-    by n l = length-append (replicate n 0) (drop n t) ∙ (let z : length (replicate n 0) ≡ n = length-replicate {A = ℕ} n 0 in omega (arith, z, length-drop n t))
+    by n l = length-append (replicate n 0) (drop n t) ∙ (let z : length (replicate n 0) ≡ n = length-replicate {A = ℕ} n 0 in omega
+        (arith, z, length-drop n t))
 
     go : (b : Bool) → leb (length (entriesOf o s)) (length t) ≡ b → length (zeroed (cond b (length (entriesOf o s)) (length t)) t) ≡ length t
     go true e = by (length (entriesOf o s)) (leb-true (length (entriesOf o s)) (length t) e)

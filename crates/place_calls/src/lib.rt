@@ -22,7 +22,8 @@ pub fn top(payload: &[u8], answer: &mut [u64]) -> u32
     place_replies::top(Place::top(payload), answer)
 }
 
-// A step: the field's kind, start, end and depth, and where its name begins, which ends where the payload starts: the first field with some 0, else the one behind the end last.
+// A step: the field's kind, start, end and depth, and where its name begins, which ends where the payload starts: the first field with some 0, else the one
+// behind the end last.
 pub fn step(
     payload: &[u8],
     kind: u8,

@@ -131,8 +131,15 @@ module _ (s t : List ℕ) (n : ℕ) (few : n ≤ length t / 2) (a : Arranged) (t
                     few = rw arranged-kept (omega (arith, count-few, few));
                     there = λ e i.
                         let j = taken-in e i in
-                        let w = met e (j .0) in
-                        (w .0, is-wanted s low (p .high) stop e (record { begins = rw stop-is (lesser-both (suc (beginIn e)) (p .stop) l (w .1 .begins) (j .1)); over = w .1 .over; under = w .1 .under }));
+                        let w = met e (j .0) in (
+                          w .0,
+                          is-wanted s low (p .high) stop e (record {
+                            begins = rw stop-is (lesser-both (suc (beginIn e)) (p .stop) l (w .1 .begins)
+                                (j .1));
+                            over = w .1 .over;
+                            under = w .1 .under;
+                          }),
+                        );
                     all = λ e i v.
                         let w = wanted-is s low (p .high) stop e v in
                         in-taken e (found e i (record { begins = omega (arith, w .begins, sooner); over = w .over; under = w .under }))
@@ -175,12 +182,18 @@ module _ (s t : List ℕ) (n : ℕ) (few : n ≤ length t / 2) (a : Arranged) (t
                           let w = met e (g .0) in (
                             w .0,
                             is-wanted s low (B.At (getD (take k t′) j 0)) stop e
-                                (record { begins = rw stop-is (lesser-both (suc (beginIn e)) (p .stop) l (w .1 .begins) (g .1)); over = w .1 .over; under = q .1 }),
+                                (record {
+                                  begins = rw stop-is (lesser-both (suc (beginIn e)) (p .stop) l (w .1 .begins) (g .1));
+                                  over = w .1 .over;
+                                  under =
+                                      q .1;
+                                }),
                           );
                       all = λ e i v.
                           let w = wanted-is s low (B.At (getD (take k t′) j 0)) stop e v in
                           let u = up-trans s (p .high) (getD (take k t′) j 0) e (w .under) (last-wanted .under) in
-                          let g = in-taken e (found e i (record { begins = omega (arith, w .begins, sooner); over = w .over; under = u })) (omega (arith, w .begins, sooner-too)) in
+                          let g = in-taken e (found e i (record { begins = omega (arith, w .begins, sooner); over = w .over; under = u }))
+                          (omega (arith, w .begins, sooner-too)) in
                           rw front at (half-all s (take k t′) in-order taken-once j long e g (w .under));
                     };
                 reached = (st .inside (getD (take k t′) j 0) (met (getD (take k t′) j 0) last-in .0), last-wanted .over);

@@ -33,7 +33,8 @@ module _ (s t : List ℕ) (p : Pass) (few : p .count ≤ length t / 2) (a : Arra
           is = λ es ws low st. cut-whole s t (p .count) few a t′ e k l h p refl stop stop-is es ws low st;
         }
 
-    pub cut-lower : (half : ℕ) → half ≡ p .count / 2 → 2 ≤ p .count → half < k → Cuts s t t′ p (record { high = B.At (getD t′ (half - 1) 0); count = half; stop = stop })
+    pub cut-lower : (half : ℕ) → half ≡ p .count / 2 → 2 ≤ p .count → half < k → Cuts s t t′ p (record
+        { high = B.At (getD t′ (half - 1) 0); count = half; stop = stop })
     cut-lower half i two j =
         record {
           kept = arranged-kept s t (p .count) few a t′ e;

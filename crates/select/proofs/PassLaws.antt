@@ -85,7 +85,8 @@ add-cut s t t₁ t₂ low x p p₁ p₂ c a = record { kept = a .kept ∙ c .kep
 
 -- ---- all names were met
 
-module _ (s es t : List ℕ) (low : Bound) (p : Pass) (st : Standing s es es low t p) (a : Arranged) (t′ : List ℕ) (e : afterwards a t′ ≡ arranged s t (p .count))
+module _ (s es t : List ℕ) (low : Bound) (p : Pass) (st : Standing s es es low t p) (a : Arranged) (t′ : List ℕ)
+    (e : afterwards a t′ ≡ arranged s t (p .count))
     (k l : ℕ) (h : a ≡ A.Done k l) (stop : ℕ) (stop-is : stop ≡ lesser (p .stop) l) where
   l-is : l ≡ least s (take (p .count) t)
   l-is = least-is s t (p .count) (st .holds .few) a t′ e k l h
@@ -94,7 +95,8 @@ module _ (s es t : List ℕ) (low : Bound) (p : Pass) (st : Standing s es es low
   pass-end =
       record {
         bound = omega (arith, st .covered .bound, sooner);
-        late = rw stop-is (lesser-both (least s es) (p .stop) l (st .covered .late) (rw l-is (least-more s (take (p .count) t) es (λ e i. st .holds .there e i .0))));
+        late = rw stop-is (lesser-both (least s es) (p .stop) l (st .covered .late) (rw l-is (least-more s (take (p .count) t) es
+            (λ e i. st .holds .there e i .0))));
         done = λ x e i j f u. over x e i j f u (above s low e) refl;
       }
     where

@@ -36,18 +36,21 @@ fields-pinned = refl
 pub frames-pinned : map (firstTwin (Frames 2 7))
     ((1 ∷ 1 ∷ 97 ∷ 1 ∷ 1 ∷ 98 ∷ 1 ∷ 1 ∷ 97 ∷ []) ∷ (2 ∷ 1 ∷ 97 ∷ 1 ∷ 1 ∷ 97 ∷ 0 ∷ 1 ∷ 1 ∷ 98 ∷ []) ∷ (2 ∷ 1 ∷ 97 ∷ 1 ∷ 1 ∷ 97 ∷ 0 ∷ 7 ∷ 1 ∷ 97 ∷ []) ∷ [])
     ≡ 8 ∷ 16777216 ∷ 9 ∷ []
-unfolding varUInt isText due known readVarUInt fixed isEmpty payload writable passOver frames.nameOf frames.nameAt equal isFirst isTwin leastOf bytesAt halfAt markOf entryOf entriesFrom firstTwin
+unfolding varUInt isText due known readVarUInt fixed isEmpty payload writable passOver frames.nameOf frames.nameAt equal isFirst isTwin leastOf bytesAt
+    halfAt markOf entryOf entriesFrom firstTwin
 frames-pinned = refl
 
 -- of "a", "b", "a" those that begin up to 6, 5 and 3
 pub last-pinned : map (λ p. firstTwin (Frames 2 p) (1 ∷ 1 ∷ 97 ∷ 1 ∷ 1 ∷ 98 ∷ 1 ∷ 1 ∷ 97 ∷ [])) (6 ∷ 5 ∷ 3 ∷ []) ≡ 8 ∷ 16777216 ∷ 16777216 ∷ []
-unfolding varUInt isText due known readVarUInt fixed isEmpty payload writable passOver frames.nameOf frames.nameAt equal isFirst isTwin leastOf bytesAt halfAt markOf entryOf entriesFrom firstTwin
+unfolding varUInt isText due known readVarUInt fixed isEmpty payload writable passOver frames.nameOf frames.nameAt equal isFirst isTwin leastOf bytesAt
+    halfAt markOf entryOf entriesFrom firstTwin
 last-pinned = refl
 
 -- of four names: in a table that holds fewer, and in one that holds more
 pub searched-pinned : searched (Fields (SharedField Null)) part (7 ∷ 8 ∷ []) ∷ searched (Fields (SharedField Null)) part (7 ∷ 8 ∷ 9 ∷ 10 ∷ 11 ∷ 12 ∷ []) ∷ []
     ≡ record { answer = 5; table = 0 ∷ 0 ∷ [] } ∷ record { answer = 5; table = 0 ∷ 0 ∷ 0 ∷ 0 ∷ 11 ∷ 12 ∷ [] } ∷ []
-unfolding varUInt isText due readVarUInt isEmpty payload front head nameAt equal isFirst isTwin leastOf bytesAt halfAt markOf entryOf entriesFrom firstTwin searched
+unfolding varUInt isText due readVarUInt isEmpty payload front head nameAt equal isFirst isTwin leastOf bytesAt halfAt markOf entryOf entriesFrom firstTwin
+    searched
 searched-pinned = refl
 
 -- the second name above and up to no bound, the first, itself; then wanted above the first and up to itself, before 4, 3 and 2

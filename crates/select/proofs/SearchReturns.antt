@@ -92,7 +92,8 @@ pub record Searching (o : Source) (s : List ℕ) (t₀ t : List ℕ) (low : Boun
 pub search-starts : (o : Source) (s t : List ℕ) → Searching o s t t B.Open 16777216
 search-starts o s t = record { kept = refl; covered = first-pass s (entriesOf o s) }
 
-module _ (o : Source) (s t₀ t : List ℕ) (low : Bound) (stop : ℕ) (g : Searching o s t₀ t low stop) (t′ : List ℕ) (p : Pass) (w : Passes s (entriesOf o s) low t t′ p)
+module _ (o : Source) (s t₀ t : List ℕ) (low : Bound) (stop : ℕ) (g : Searching o s t₀ t low stop) (t′ : List ℕ) (p : Pass)
+    (w : Passes s (entriesOf o s) low t t′ p)
     (high : Bound) (e : high ≡ p .high) where
   pub search-ends : high ≡ B.Open → (p .stop ≡ firstTwin o s) × (length t′ ≡ length t₀)
   unfolding firstTwin

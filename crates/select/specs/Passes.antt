@@ -14,7 +14,8 @@ use Rattle.select.specs.declared.Filled.{Filled}
 use Rattle.select.specs.declared.Filled.the-variants as F
 use Rattle.select.specs.Range.{above, upTo, wanted}
 
--- of the entries es, those that are not above a bound are dealt with: no twin among them begins before `stop`, and no twin at all before the least
+-- of the entries es, those that are not above a bound are dealt with: no twin among them begins before `stop`, which does not stand before the first twin
+-- of all
 pub record Covered (s es : List ℕ) (low : Bound) (stop : ℕ) : Type 0 where
   pub bound : stop ≤ 16777216
   pub late : least s es ≤ stop

@@ -1,4 +1,4 @@
--- Names that stand in a part one after another, as entries, and the first that stands a second time.
+-- Names that stand in a part one after another, as entries, and the first that is equal to one before it. An entry holds a part shorter than 16,777,216 bytes.
 use Prim.Native.Nat.{ℕ, zero, suc}
 use mathlib.Core.Bool.{cond}
 use mathlib.Core.List.{List, [], _∷_, _++_}

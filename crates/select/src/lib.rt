@@ -1,4 +1,4 @@
-// Where the first name begins that stands a second time, among names that stand in a part one after another: of as many names as there are, in a table of
+// Where the first name begins that is equal to one before it, among names that stand in a part one after another: of as many names as there are, in a table of
 // any length. If it holds them all, they are divided at once; else the first of them are, and if none of these stands twice, each pass over the part takes the
 // least names that are above those of the passes before, as many as the table holds, and arranges them.
 use compare::Order;
@@ -272,9 +272,9 @@ fn go_on(part: &[u8], source: Source, table: &mut [u64]) -> usize
     }
 }
 
-// Where the first name begins that stands a second time; 16777216 if every name stands once. With a number for each name they are divided at once; the numbers
-// that were used hold zeros afterwards. With fewer those that the table holds are divided, and if each of them stands once there are passes; the whole table
-// holds zeros.
+// Where the first name begins that is equal to one before it; 16777216 if there is none, in a part that is shorter than that. With a number for each name
+// they are divided at once; the numbers that were used hold zeros afterwards. With fewer those that the table holds are divided, and if each of them stands
+// once there are passes; the whole table holds zeros.
 pub fn first_twin(part: &[u8], source: Source, table: &mut [u64]) -> usize
     ensures { λ r. ⌜ record { answer = r; table = now (table .exit) } ≡ searched source (now (part .entry)) (now (table .entry)) ⌝ }
 {

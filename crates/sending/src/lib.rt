@@ -1,4 +1,5 @@
-// The writer's answer in numbers. 0: the number lent is the encoding's length. 1 to 11: refused, and it is the place. With no number lent it is 12, and refused too.
+// The writer's answer in numbers. 0: the number lent is the encoding's length. 1 to 11: refused, and it is the place. With no number lent it is 12, and
+// refused too.
 use frames::Written;
 ghost use mathlib.Core.Path.{_≡_};
 ghost use Rattle.sending.specs.Sent.{sent};

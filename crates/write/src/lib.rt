@@ -109,7 +109,8 @@ fn put_front(
     to: usize,
 ) -> usize
     requires { ⌜ (from ≤ start) × (start ≤ length (now list)) × (to + (length (typePart named typed id) + (start - from)) ≤ length (now out)) × (id < 32) ⌝ }
-    ensures { λ r. ⌜ (r ≡ to + (length (typePart named typed id) + (start - from))) × (now (out .exit) ≡ sets (now (out .entry)) to (typePart named typed id ++ between from start (now (list .entry)))) ⌝ }
+    ensures { λ r. ⌜ (r ≡ to + (length (typePart named typed id) + (start - from)))
+        × (now (out .exit) ≡ sets (now (out .entry)) to (typePart named typed id ++ between from start (now (list .entry)))) ⌝ }
 {
     let at = put_type(out, to, named, typed, id);
     copy(list, from, start, out, at);
@@ -265,7 +266,8 @@ fn put_contents(
 
 // The writer.
 pub fn write(list: &[u8], out: &mut [u8], work: &mut [u32]) -> Written
-    ensures { λ r. ⌜ record { answer = r; output = now (out .exit); work = now (work .exit) } ≡ written (now (list .entry)) (now (out .entry)) (now (work .entry)) ⌝ }
+    ensures { λ r. ⌜ record { answer = r; output = now (out .exit); work = now (work .exit) }
+        ≡ written (now (list .entry)) (now (out .entry)) (now (work .entry)) ⌝ }
 {
     match measure::measure(list, out.len(), work) {
         Settled::Refused(refusal, place) => Written::Refused(refusal, place),

@@ -24,7 +24,8 @@ search-spec =
     (λ c κs. search laws)
     (λ c. search laws)
     (λ c. search laws)
-    (λ c. search-ends _ _ _ _ _ _ (c .before .before .before .before .before .before .loop .inv) _ _ (c .before .before .before .before .gather .ensures) _ refl (c .enum-told .given .1))
+    (λ c. search-ends _ _ _ _ _ _ (c .before .before .before .before .before .before .loop .inv) _ _ (c .before .before .before .before .gather .ensures) _
+    refl (c .enum-told .given .1))
     (λ c. search laws)
     (λ c. search laws)
     (λ c. search laws))
