@@ -1,3 +1,4 @@
 mod Returns
 pub mod Clearing
+mod PinnedNumbers
 pub mod OneAnswer

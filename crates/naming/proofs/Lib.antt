@@ -1,3 +1,4 @@
 pub mod RoomLaws
 mod NameReturns
+mod PinnedNames
 pub mod OneAnswer
