@@ -7,14 +7,15 @@ use mathlib.Core.Bool.{true}
 use mathlib.Core.List.{List, [], _∷_}
 use lib.ListN.{length, take, drop, getD}
 use lib.Seq.{getD-drop}
+use lib.Count.{leadingZeros, leading-le}
 use lib.Dec.{leb}
 use borrow.Author.Tests.{lt-ltb, le-leb}
-use mir.Syntax.{w8}
+use mir.Syntax.{w8, w64}
 use mir.Val.{Fits}
 use Rattle.number.specs.BigEndian.{Bytes, behind}
 use Rattle.number.specs.VarUInt.{lead, bound, following, valueOf, answer, varUInt}
 use Rattle.number.specs.declared.VarUInt.the-variants.{Cut, Whole}
-use Rattle.number.proofs.VarUIntLaws.{limit, limit-whole, Following, following-at, following-is, below, answer-whole}
+use Rattle.number.proofs.VarUIntLaws.{limit, limit-whole, Following, following-is, below, answer-whole}
 
 -- what is known of a slice of bytes
 abbrev pub Known : List ℕ → Type 0
@@ -29,6 +30,10 @@ unfolding varUInt
 read-none [] h = refl
 read-none (b ∷ s) h = absurd (omega arith)
 
+-- a count of leading zeros among eight digits fits a usize
+pub count-fits : (x : ℕ) → Fits w64 (leadingZeros 8 x)
+count-fits x = record { fits = omega (arith, leading-le 8 x) }
+
 -- a first byte, and the others
 split-first : (s : List ℕ) (n : ℕ) → 0 < length s → n ≡ following (getD s 0 0) → varUInt s ≡ answer n (getD s 0 0) (drop 1 s)
 unfolding varUInt
@@ -39,11 +44,11 @@ rest-length : (s : List ℕ) → 0 < length s → length s ≡ suc (length (drop
 rest-length [] h = absurd (omega arith)
 rest-length (b ∷ s) h = refl
 
-pub read-one : (s : List ℕ) (v : ℕ) → 0 < length s → getD s 0 0 < 128 → v ≡ getD s 0 0 → Whole v 1 true ≡ varUInt s
+pub read-one : (s : List ℕ) (v : ℕ) → 0 < length s → 0 ≡ following (getD s 0 0) → v ≡ getD s 0 0 → Whole v 1 true ≡ varUInt s
 read-one s v h l e =
     let z : getD s 0 0 - 0 ≡ getD s 0 0 = omega arith in
     rw (
-      split-first s 0 h (following-at 0 (getD s 0 0) (omega arith) (omega arith) l),
+      split-first s 0 h l,
       answer-whole 0 (getD s 0 0) (drop 1 s) (omega arith),
       z,
       e,

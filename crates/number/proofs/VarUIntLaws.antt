@@ -1,4 +1,5 @@
--- Laws of the VarUInt: what the minimal form reads back as, and that a minimal form that reads as a value is the value's own form.
+-- Laws of the VarUInt: how many bytes follow the first; what the minimal form reads back as, and that a minimal form that reads as a value is
+-- the value's own form.
 use Prim.Native.Nat.{ℕ, zero, suc, _+_, _-_, _*_, _/_, _%_, _^_, _≤_, _<_}
 use native.Mathlib.Omega.{arith}
 use native.Mathlib.Nat.{div-add-mod', div-lt-iff-lt-mul}
@@ -8,6 +9,7 @@ use mathlib.Core.List.{List, [], _∷_, _++_}
 use lib.ListN.{length, take, drop, getD, length-append, take-append-drop}
 use lib.Seq.{take-at, length-take-le}
 use lib.Arith.{digits-div, digits-lt}
+use lib.Count.{leadingZeros}
 use lib.Dec.{T, ltb, leb, eqb, leb→le, eqb→eq}
 use borrow.Author.Tests.{ltb-false, leb-true, le-ltb, le-leb}
 use Rattle.number.specs.BigEndian.{Bytes, behind, fromBytes, toBytes}
@@ -78,12 +80,11 @@ following-is b h = record { most = reached-most leads b; low = reached-low 0 lea
 is-following : (n b : ℕ) → Following n b → following b ≡ n
 is-following n b f = reached-at 0 leads n b 256 leads-rise (f .most) (f .low) (f .high)
 
-pub following-at : (n b : ℕ) → n ≤ 8 → lead n ≤ b → b < top n → n ≡ following b
-following-at n b h low high = sym (is-following n b (record { most = h; low = low; high = high }))
-
-pub some-follow : (n b : ℕ) → Following n b → 128 ≤ b → 1 ≤ n
-some-follow zero b f h = absurd (omega (arith, f .high))
-some-follow (suc n) b f h = omega arith
+-- a byte's complement has as many leading zeros as the byte has leading one bits: computed at each of the 256 bytes
+pub complement-zeros : (b : ℕ) → b < 256 → leadingZeros 8 (255 - b) ≡ following b
+unfolding leadingZeros
+complement-zeros b h =
+    eqb→eq (leadingZeros 8 (255 - b)) (following b) (every-at (λ k. eqb (leadingZeros 8 (255 - k)) (following k)) 256 tt b h)
 
 -- how many bytes behind the first the value needs
 record Needed (n v : ℕ) : Type 0 where

@@ -56,35 +56,11 @@ fn bound(n: usize) -> u64
     1 << (7 * n)
 }
 
-// The number of leading one bits.
+// How many bytes follow the first byte: as many as it has leading one bits, and its complement leading zeros.
 fn following(b: u8) -> usize
     ensures { λ r. ⌜ r ≡ var.following b ⌝ }
 {
-    if b < 0x80 {
-        return 0;
-    }
-    if b < 0xc0 {
-        return 1;
-    }
-    if b < 0xe0 {
-        return 2;
-    }
-    if b < 0xf0 {
-        return 3;
-    }
-    if b < 0xf8 {
-        return 4;
-    }
-    if b < 0xfc {
-        return 5;
-    }
-    if b < 0xfe {
-        return 6;
-    }
-    if b < 0xff {
-        return 7;
-    }
-    8
+    u8::leading_zeros(!b) as usize
 }
 
 // The number that `first` and then the bytes from `from` to `to` make.
@@ -108,14 +84,14 @@ pub fn read(part: &[u8]) -> VarUInt
         return VarUInt::Cut;
     }
     let b = part[0];
-    if b < 0x80 {
+    let n = following(b);
+    if n == 0 {
         return VarUInt::Whole {
             value: wide(b),
             length: 1,
             minimal: true,
         };
     }
-    let n = following(b);
     if part.len() <= n {
         return VarUInt::Cut;
     }

@@ -1,21 +1,9 @@
--- `number::following` meets its contract: each answer of the ladder is the number of leading one bits. Assumes nothing.
-use borrow.Author.Needs.{needs}
-use Rattle.number.proofs.VarUIntLaws.{following-at}
+-- `number::following` meets its contract: the machine's count is the number of leading one bits. Assumes nothing.
+use native.Mathlib.Omega.{arith}
+use Rattle.number.proofs.VarUIntLaws.{complement-zeros}
+use Rattle.number.proofs.ReadLaws.{count-fits}
 use Rattle.number.proofs.following.Statement.{statement}
 use Rattle.number.proofs.following.Tie as tie
 
-ruleset laws = (following-at, needs)
-
 pub following-spec : {M : Type 1} → statement M
-following-spec =
-    tie.close
-    (tie.spec
-    (λ c. search laws)
-    (λ c. search laws)
-    (λ c. search laws)
-    (λ c. search laws)
-    (λ c. search laws)
-    (λ c. search laws)
-    (λ c. search laws)
-    (λ c. search laws)
-    (λ c. search laws))
+following-spec = tie.close (tie.spec (λ c. count-fits _) (λ c. complement-zeros (c .args .b) (omega arith)))

@@ -1,8 +1,8 @@
 -- `number::read` meets its contract. Assumes nothing.
 use Prim.Native.Nat.{_-_}
 use native.Mathlib.Omega.{arith}
+use mathlib.Core.Path.{sym, _∙_}
 use borrow.Author.Needs.{needs}
-use Rattle.number.proofs.VarUIntLaws.{some-follow}
 use Rattle.number.proofs.ReadLaws.{read-none, read-one, read-cut, following-known, value-fits, read-whole}
 use Rattle.number.proofs.read.Statement.{statement}
 use Rattle.number.proofs.read.Tie as tie
@@ -14,25 +14,25 @@ read-spec =
     (λ c. search (read-none, needs))
     (λ c. search needs)
     (λ c κs. search needs)
-    (λ c. read-one _ _ (omega arith) (c .before .if2 .taken) (c .wide .ensures))
     (λ c κs. search needs)
-    (λ c. read-cut _ _ (omega arith) (c .before .following .ensures) (c .if3 .taken))
+    (λ c. read-one _ _ (omega arith) (sym (c .before .if2 .taken) ∙ c .before .before .following .ensures) (c .wide .ensures))
+    (λ c. read-cut _ _ (omega arith) (c .before .before .following .ensures) (c .if3 .taken))
     (λ c κs. search needs)
     (λ c κs.
     let s = c .before .before .before .before .before .before .before .args .part .now in
     let known = c .before .before .before .before .shared-slice-known2 .given in
-    let n = c .before .before .following in
+    let n = c .before .before .before .following in
     following-known s (n .result) known (n .ensures) .most)
     (λ c.
     let s = c .before .before .before .before .before .before .before .before .args .part .now in
     let known = c .before .before .before .before .before .shared-slice-known2 .given in
-    let n = c .before .before .before .following in
+    let n = c .before .before .before .before .following in
     omega (arith, following-known s (n .result) known (n .ensures) .low, c .lead .ensures, c .before .wide2 .ensures))
     (λ c. search needs)
     (λ c κs.
     let s = c .before .before .before .before .before .before .before .before .args .part .now in
     let known = c .before .before .before .before .before .shared-slice-known2 .given in
-    let n = c .before .before .before .following in
+    let n = c .before .before .before .before .following in
     let b = c .before .wide2 in (
       omega arith,
       omega arith,
@@ -42,11 +42,11 @@ read-spec =
     (λ c κs.
     let s = c .before .before .before .before .before .before .before .before .before .args .part .now in
     let known = c .before .before .before .before .before .before .shared-slice-known2 .given in
-    let n = c .before .before .before .before .following in
-    (some-follow (n .result) _ (following-known s (n .result) known (n .ensures)) (omega arith), following-known s (n .result) known (n .ensures) .most))
+    let n = c .before .before .before .before .before .following in
+    (omega arith, following-known s (n .result) known (n .ensures) .most))
     (λ c.
     let s = c .before .before .before .before .before .before .before .before .before .before .args .part .now in
-    let n = c .before .before .before .before .before .following in
+    let n = c .before .before .before .before .before .before .following in
     let b = c .before .before .before .wide2 in
     let l = c .before .before .lead in
     read-whole s (n .result) (l .result) (b .result - l .result) _ _ (n .ensures) (omega arith) (l .ensures) (omega (arith, b .ensures))
