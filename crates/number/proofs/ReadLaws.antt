@@ -7,10 +7,9 @@ use mathlib.Core.Bool.{true}
 use mathlib.Core.List.{List, [], _∷_}
 use lib.ListN.{length, take, drop, getD}
 use lib.Seq.{getD-drop}
-use lib.Count.{leadingZeros, leading-le}
 use lib.Dec.{leb}
 use borrow.Author.Tests.{lt-ltb, le-leb}
-use mir.Syntax.{w8, w64}
+use mir.Syntax.{w8}
 use mir.Val.{Fits}
 use Rattle.number.specs.BigEndian.{Bytes, behind}
 use Rattle.number.specs.VarUInt.{lead, bound, following, valueOf, answer, varUInt}
@@ -29,10 +28,6 @@ pub read-none : (s : List ℕ) → length s ≡ 0 → Cut ≡ varUInt s
 unfolding varUInt
 read-none [] h = refl
 read-none (b ∷ s) h = absurd (omega arith)
-
--- a count of leading zeros among eight digits fits a usize
-pub count-fits : (x : ℕ) → Fits w64 (leadingZeros 8 x)
-count-fits x = record { fits = omega (arith, leading-le 8 x) }
 
 -- a first byte, and the others
 split-first : (s : List ℕ) (n : ℕ) → 0 < length s → n ≡ following (getD s 0 0) → varUInt s ≡ answer n (getD s 0 0) (drop 1 s)

@@ -9,9 +9,11 @@ use mathlib.Core.List.{List, [], _∷_, _++_}
 use lib.ListN.{length, take, drop, getD, length-append, take-append-drop}
 use lib.Seq.{take-at, length-take-le}
 use lib.Arith.{digits-div, digits-lt}
-use lib.Count.{leadingZeros}
+use lib.Count.{leadingZeros, leading-le}
 use lib.Dec.{T, ltb, leb, eqb, leb→le, eqb→eq}
 use borrow.Author.Tests.{ltb-false, leb-true, le-ltb, le-leb}
+use mir.Syntax.{w64}
+use mir.Val.{Fits}
 use Rattle.number.specs.BigEndian.{Bytes, behind, fromBytes, toBytes}
 use Rattle.number.specs.VarUInt.{reached, leads, lead, bounds, bound, following, valueOf, answer, varUInt, form, encoded}
 use Rattle.number.specs.declared.VarUInt.the-variants.{Cut, Whole}
@@ -85,6 +87,10 @@ pub complement-zeros : (b : ℕ) → b < 256 → leadingZeros 8 (255 - b) ≡ fo
 unfolding leadingZeros
 complement-zeros b h =
     eqb→eq (leadingZeros 8 (255 - b)) (following b) (every-at (λ k. eqb (leadingZeros 8 (255 - k)) (following k)) 256 tt b h)
+
+-- a count of leading zeros among eight bits fits a usize
+pub count-fits : (x : ℕ) → Fits w64 (leadingZeros 8 x)
+count-fits x = record { fits = omega (arith, leading-le 8 x) }
 
 -- how many bytes behind the first the value needs
 record Needed (n v : ℕ) : Type 0 where

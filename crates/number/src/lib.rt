@@ -56,7 +56,7 @@ fn bound(n: usize) -> u64
     1 << (7 * n)
 }
 
-// How many bytes follow the first byte: as many as it has leading one bits, and its complement leading zeros.
+// How many bytes follow the first byte: as many as it has leading one bits, which are the leading zeros of its complement.
 fn following(b: u8) -> usize
     ensures { λ r. ⌜ r ≡ var.following b ⌝ }
 {

@@ -1,7 +1,6 @@
--- `number::following` meets its contract: the machine's count is the number of leading one bits. Assumes nothing.
+-- `number::following` meets its contract: the machine's count of leading zeros of the complement is what the definition gives. Assumes nothing.
 use native.Mathlib.Omega.{arith}
-use Rattle.number.proofs.VarUIntLaws.{complement-zeros}
-use Rattle.number.proofs.ReadLaws.{count-fits}
+use Rattle.number.proofs.VarUIntLaws.{complement-zeros, count-fits}
 use Rattle.number.proofs.following.Statement.{statement}
 use Rattle.number.proofs.following.Tie as tie
 
