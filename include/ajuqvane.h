@@ -17,7 +17,9 @@ extern "C" {
 /* The VarUInt at the front of a part. count is how many numbers answer points to.
  * 0: it is whole. answer[0] is its value, answer[1] how many bytes it takes, answer[2] is 1 if no shorter form holds the
  *    value and 0 otherwise; the other numbers are as they were.
- * 1: the part cuts it off. All numbers are as they were.
+ * 1: the part ends before it does. answer[0] is how many bytes are missing, 1 to 8; with those of the part they are 9 at most. If
+ *    the part has a first byte, as many bytes of any value behind the part make it whole, and fewer do not. If the part has no
+ *    byte, answer[0] is 1: ask again with that byte. The other numbers are as they were.
  * 12: fewer than 3 numbers are lent, whatever the part holds. All numbers are as they were. */
 uint32_t ajuqvane_varuint(const uint8_t *part, size_t length, uint64_t *answer, size_t count);
 

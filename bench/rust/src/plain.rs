@@ -9,7 +9,7 @@ use crate::writer::{self, Refused};
 /// Value, bytes taken, whether minimal.
 #[inline(never)]
 pub fn varuint(part: &[u8]) -> Option<(u64, usize, bool)> {
-    number::read_varuint(part).map(|number| (number.value, number.taken, number.minimal))
+    number::read_varuint(part).ok().map(|number| (number.value, number.taken, number.minimal))
 }
 
 #[inline(never)]

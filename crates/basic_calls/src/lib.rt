@@ -7,8 +7,8 @@ ghost use Rattle.float.specs.Rule.{holds};
 ghost use Rattle.replies.specs.Number.{truth, afterwards};
 ghost use Rattle.replies.specs.Reply.{varuint};
 
-// 0: a whole VarUInt stands at the front, and `answer` starts with its value, the bytes it takes, and 1 if it is minimal. 1: it is cut off. 12: fewer than
-// three numbers are lent. After 1 and 12 they are as before.
+// 0: a whole VarUInt stands at the front, and `answer` starts with its value, the bytes it takes, and 1 if it is minimal. 1: it is cut off, and `answer`
+// starts with how many bytes are missing. 12: fewer than three numbers are lent. Numbers that the answer does not name are as before.
 pub fn varuint(part: &[u8], answer: &mut [u64]) -> u32
     ensures { λ r. ⌜ afterwards r (now (answer .exit)) ≡ varuint (now (part .entry)) (now (answer .entry)) ⌝ }
 {

@@ -14,7 +14,8 @@ ghost use Rattle.replies.specs.Reply.{told, varuint, doubleReply, signedReply, 
 ghost use Rattle.place_replies.specs.PlaceReply.{placeOf, afterOf, checkedReply, topReply, stepReply, partReply, foundReply};
 ghost use Rattle.sending.specs.Sent.{sent};
 
-// 0: a whole VarUInt stands at the front, and `answer` starts with its value, the bytes it takes, and 1 if it is minimal. 1: it is cut off.
+// 0: a whole VarUInt stands at the front, and `answer` starts with its value, the bytes it takes, and 1 if it is minimal. 1: it is cut off, and `answer`
+// starts with how many bytes are missing.
 #[no_mangle]
 pub extern "C" fn ajuqvane_varuint(part: &[u8], answer: &mut [u64]) -> u32
     ensures { λ r. ⌜ afterwards r (now (answer .exit)) ≡ varuint (now (part .entry)) (now (answer .entry)) ⌝ }

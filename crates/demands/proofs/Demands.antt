@@ -1,16 +1,20 @@
--- What the owner demands, sentence by sentence, each as a theorem about the definitions of document 01. The proofs are citations: what stands behind them is
--- in the proofs/ of the crates that the `use` lines below name. What the calls have to do with it, their contracts say:
--- each is one equation with a definition.
-use Prim.Native.Nat.{ℕ, suc, _+_, _%_, _^_, _≤_, _<_}
+-- What the owner demands, sentence by sentence, each as a theorem about the definitions of documents 01 and 02. The proofs are citations: what stands
+-- behind them is in the proofs/ of the crates that the `use` lines below name. What the calls have to do with it, their contracts say: each is one
+-- equation with a definition.
+use Prim.Native.Nat.{ℕ, suc, _+_, _-_, _%_, _^_, _≤_, _<_}
 use mathlib.Core.Path.{_≡_}
-use mathlib.Core.Bool.{true, false}
+use mathlib.Core.Bool.{Bool, true, false}
 use mathlib.Core.Logic.{_↔_}
 use mathlib.Core.Option.{Option, some}
 use mathlib.Core.List.{List, [], _++_}
-use lib.ListN.{length, drop}
+use lib.ListN.{length, take, drop}
 use lib.Seq.{slice}
 use lib.Ieee.{binary32, binary64, ofBits}
 use Rattle.number.specs.BigEndian.{All, Bytes}
+use Rattle.number.specs.VarUInt.{varUInt}
+use Rattle.number.specs.declared.VarUInt.the-variants.{Cut, Whole}
+use Rattle.number.proofs.MissingLaws as missing
+use Rattle.number.proofs.PinnedVarUInts as numbers-pinned
 use Rattle.float.specs.Width.{isNan32, isNan64, widen}
 use Rattle.format.specs.declared.Kind.{Kind}
 use Rattle.format.specs.declared.Form.the-variants as Fo
@@ -55,6 +59,7 @@ use Rattle.spelling.specs.Spells.{anyForm, minimalForm, Spells}
 use Rattle.spelling.specs.Halts.{Halts}
 use Rattle.spelling.specs.MaskSaid.{MaskSaid}
 use Rattle.spelling.proofs.SpelledOut as spelled
+use Rattle.spelling.proofs.SpelledNumbers as spelled-numbers
 use Rattle.hexadecimal.specs.Typing.{start}
 use Rattle.answers.specs.Answer.{answered}
 use Rattle.program.specs.Input.{fedParts, joined}
@@ -323,3 +328,41 @@ steps-enough = bounds.steps-from-enough
 pub frames-enough : (d : ℕ) (names : List (List ℕ) → Option (List (List ℕ))) (n : ℕ) (used : List (List ℕ)) (s : List ℕ) → length s ≤ n
     → untilClose (λ u. readFrames d (names u)) n used s ≡ untilClose (λ u. readFrames d (names u)) (length s) used s
 frames-enough = frames.frames-enough
+
+-- ---- document 02, M-107: "for a cut value, how many of the bytes its first byte calls for are still missing": of a value that is cut in two, as many as were
+-- cut off
+pub cut-off : (held more : List ℕ) (v : ℕ) (minimal : Bool) → 1 ≤ length held → 1 ≤ length more
+    → varUInt (held ++ more) ≡ Whole v (length held + length more) minimal → varUInt held ≡ Cut (length more)
+cut-off = missing.cut-off
+
+-- "(one for an empty rest)"
+pub empty-rest : varUInt [] ≡ Cut 1
+empty-rest = numbers-pinned.nothing-there
+
+-- at least one is missing, and a value has 9 bytes at most
+pub missing-range : (held : List ℕ) (missing : ℕ) → varUInt held ≡ Cut missing → (1 ≤ missing) × (length held + missing ≤ 9)
+missing-range = missing.missing-range
+
+-- "and for a whole value also whether it is minimal.": exactly if no shorter form holds the value
+pub minimal-exactly : (s : List ℕ) (v n : ℕ) (minimal : Bool) → Bytes s → varUInt s ≡ Whole v n minimal → (minimal ≡ true) ↔ minimalForm v (take n s)
+minimal-exactly = spelled-numbers.minimal-exactly
+
+-- "Our receiver must know how many bytes to wait for.": as many as are missing, whichever they are, make it whole once a first byte is held
+pub missing-joined : (held more : List ℕ) (missing : ℕ) → varUInt held ≡ Cut missing → 1 ≤ length held → missing ≤ length more
+    → (v : ℕ) × (minimal : Bool) × (varUInt (held ++ more) ≡ Whole v (length held + missing) minimal)
+missing-joined = missing.missing-joined
+
+-- fewer do not
+pub fewer-joined : (held more : List ℕ) (missing : ℕ) → varUInt held ≡ Cut missing → length more < missing
+    → varUInt (held ++ more) ≡ Cut (missing - length more)
+fewer-joined = missing.fewer-joined
+
+-- it never waits past the end of the value, whatever comes
+pub never-too-many : (held more : List ℕ) (missing v n : ℕ) (minimal : Bool) → varUInt held ≡ Cut missing → varUInt (held ++ more) ≡ Whole v n minimal
+    → length held + missing ≤ n
+never-too-many = missing.never-too-many
+
+-- and it is told to wait again only if it held no byte before
+pub told-again : (held more : List ℕ) (missing again : ℕ) → varUInt held ≡ Cut missing → missing ≤ length more → varUInt (held ++ more) ≡ Cut again
+    → held ≡ []
+told-again = missing.told-again

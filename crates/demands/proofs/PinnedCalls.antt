@@ -24,6 +24,13 @@ pub enough-lent : varuint (0x80 ∷ 0x05 ∷ []) (1 ∷ 2 ∷ 3 ∷ 4 ∷ []) �
 unfolding varUInt
 enough-lent = refl
 
+-- a cut VarUInt: how many bytes are missing stands at the front, and what is behind it stays; or too few are lent
+pub cut-lent : varuint [] (7 ∷ 8 ∷ 9 ∷ 10 ∷ []) ∷ varuint (0xff ∷ []) (7 ∷ 8 ∷ 9 ∷ []) ∷ varuint (0xc1 ∷ 0x23 ∷ []) (7 ∷ 8 ∷ 9 ∷ [])
+    ∷ varuint (0xff ∷ []) (7 ∷ 8 ∷ []) ∷ []
+    ≡ afterwards 1 (1 ∷ 8 ∷ 9 ∷ 10 ∷ []) ∷ afterwards 1 (8 ∷ 8 ∷ 9 ∷ []) ∷ afterwards 1 (1 ∷ 8 ∷ 9 ∷ []) ∷ afterwards 12 (7 ∷ 8 ∷ []) ∷ []
+unfolding varUInt
+cut-lent = refl
+
 pub no-number-lent : sent (0x08 ∷ 0x05 ∷ []) (9 ∷ 9 ∷ []) (7 ∷ 7 ∷ []) [] ≡ record { code = 12; held = []; output = 9 ∷ 9 ∷ []; work = 0 ∷ 0 ∷ [] }
 unfolding sent
 no-number-lent = refl

@@ -3,7 +3,7 @@
 use Prim.Native.Nat.{ℕ, zero, suc, _+_, _^_, _≤_, _<_}
 use native.Mathlib.Omega.{arith}
 use mathlib.Core.Path.{_≡_, refl, sym, ap}
-use mathlib.Core.Bool.{Bool, true, false, cond}
+use mathlib.Core.Bool.{Bool, true, false, cond, not}
 use mathlib.Core.List.{List, [], _∷_, _++_, map, append-assoc}
 use lib.ListN.{length, take, drop, length-append, length-take, take-append-drop}
 use lib.Seq.{take-at, drop-at, drop-append-seam}
@@ -12,13 +12,14 @@ use borrow.Author.Tests.{ltb-false, le-ltb}
 use Rattle.number.proofs.Clash.{clash}
 use Rattle.number.specs.BigEndian.{All, Bytes}
 use Rattle.number.specs.VarUInt.{varUInt, encoded}
-use Rattle.number.specs.declared.VarUInt.{VarUInt}
-use Rattle.number.specs.declared.VarUInt.the-variants.{Cut, Whole}
+use Rattle.number.specs.declared.VarUInt.the-variants.{Whole}
+use Rattle.number.proofs.NumberThenLaws.{number-all}
 use Rattle.number.proofs.VarUIntLaws.{var-rt, var-inv}
 use Rattle.format.specs.declared.Stop.{Stop}
 use Rattle.format.specs.declared.Stop.the-variants.{Early}
 use Rattle.format.specs.declared.Flaw.{Flaw}
-use Rattle.format.specs.Parse.{Out, fault, got, withFlaws, bind, raise, make, whole, number, readVarUInt, fixed, sized, many, fill}
+use Rattle.format.specs.declared.Flaw.the-variants.{Long}
+use Rattle.format.specs.Parse.{Out, fault, got, withFlaws, bind, raise, make, whole, readVarUInt, fixed, sized, many, fill}
 use Rattle.format.specs.Encoding.{withSize, concat}
 use Rattle.format.proofs.Lists.{bytes-right, bytes-left}
 
@@ -61,12 +62,11 @@ number-rt v r h = rw (var-rt v r h, drop-append-seam (encoded v) r)
 
 pub number-case : {X : Type 0} (s : List ℕ) {v : ℕ} {r : List ℕ} → Bytes s → readVarUInt s ≡ got v [] r → (s ≡ encoded v ++ r → v < 2 ^ 64 → Bytes r → X) → X
 unfolding readVarUInt
-number-case {X} s {v} {r} w h c = go (varUInt s) refl h
+number-case {X} s {v} {r} w h c = number-all (λ o. o ≡ got v [] r → X) _ _ s never go h
   where
-    go : (o : VarUInt) → varUInt s ≡ o → number o s ≡ got v [] r → X
-    go Cut e h = never h
-    go (Whole u n false) e h = flawed h
-    go (Whole u n true) e h =
+    go : (u n : ℕ) (x : Bool) → varUInt s ≡ Whole u n x → raise (not x) Long (got u [] (drop n s)) ≡ got v [] r → X
+    go u n false e h = flawed h
+    go u n true e h =
         let i = var-inv s u n w e in
         let y : u ≡ v = cc in
         let z : s ≡ encoded v ++ r = cc in

@@ -9,8 +9,8 @@ use lib.Seq.{take-at, drop-at, length-take-le}
 use lib.Dec.{ltb}
 use borrow.Author.Tests.{ltb-false, le-ltb}
 use Rattle.number.specs.VarUInt.{varUInt}
-use Rattle.number.specs.declared.VarUInt.{VarUInt}
-use Rattle.number.specs.declared.VarUInt.the-variants.{Cut, Whole}
+use Rattle.number.specs.declared.VarUInt.the-variants.{Whole}
+use Rattle.number.proofs.NumberThenLaws.{number-all}
 use Rattle.number.proofs.VarUIntLaws.{var-range, var-local}
 use Rattle.format.specs.declared.Stop.the-variants.{Early}
 use Rattle.format.specs.declared.Flaw.{Flaw}
@@ -68,12 +68,13 @@ local-make f p g = local-bind p (λ a r. got (f a) [] r) g (λ a. local-got (f a
 
 pub local-number : Local readVarUInt
 unfolding readVarUInt
-local-number s a fs r h = go (varUInt s) refl h
+local-number s a fs r h = number-all (λ o. o ≡ got a fs r → Alone) _ _ s never go h
   where
-    go : (o : VarUInt) → varUInt s ≡ o → number o s ≡ got a fs r
-        → (w : List ℕ) × (s ≡ w ++ r) × ((q : List ℕ) → number (varUInt (w ++ q)) (w ++ q) ≡ got a fs q)
-    go Cut e h = never h
-    go (Whole v n x) e h =
+    Alone : Type 0
+    Alone = (w : List ℕ) × (s ≡ w ++ r) × ((q : List ℕ) → number (varUInt (w ++ q)) (w ++ q) ≡ got a fs q)
+
+    go : (v n : ℕ) (x : Bool) → varUInt s ≡ Whole v n x → raise (not x) Long (got v [] (drop n s)) ≡ got a fs r → Alone
+    go v n x e h =
         let l = var-range s v n x e .2 in
         let m : length (take n s) ≡ n = length-take-le n s l in
         let y : drop n s ≡ r = at (not x) h in
@@ -124,11 +125,10 @@ local-le p f s {a} {fs} {r} h = let x = f s a fs r h in omega (arith, simp lengt
 
 pub number-takes : (s : List ℕ) {v : ℕ} {fs : List Flaw} {r : List ℕ} → readVarUInt s ≡ got v fs r → length r < length s
 unfolding readVarUInt
-number-takes s {v = a} {fs} {r} h = go (varUInt s) refl h
+number-takes s {v = a} {fs} {r} h = number-all (λ o. o ≡ got a fs r → length r < length s) _ _ s never go h
   where
-    go : (o : VarUInt) → varUInt s ≡ o → number o s ≡ got a fs r → length r < length s
-    go Cut e h = never h
-    go (Whole v n x) e h = raise-got (not x) Long (got v [] (drop n s)) h λ gs k.
+    go : (v n : ℕ) (x : Bool) → varUInt s ≡ Whole v n x → raise (not x) Long (got v [] (drop n s)) ≡ got a fs r → length r < length s
+    go v n x e h = raise-got (not x) Long (got v [] (drop n s)) h λ gs k.
         let i = var-range s v n x e in
         let y : drop n s ≡ r = cc in
         let z : s ≡ take n s ++ r = cc (take-append-drop n s) in

@@ -9,9 +9,7 @@ use lib.IntN.{pos, negsuc}
 use Rattle.number.proofs.Clash.{clash}
 use Rattle.number.specs.BigEndian.{All, fromBytes}
 use Rattle.number.specs.Signed.{fromTwos}
-use Rattle.number.specs.VarUInt.{varUInt}
-use Rattle.number.specs.declared.VarUInt.{VarUInt}
-use Rattle.number.specs.declared.VarUInt.the-variants.{Cut, Whole}
+use Rattle.number.proofs.NumberThenLaws.{number-all}
 use Rattle.text.specs.Utf8.{isText}
 use Rattle.format.specs.declared.Kind.{Kind}
 use Rattle.format.specs.declared.Kind.the-variants.{Null, Object, UniformObject, Array, UniformArray, Binary, String, IntegerPositive, IntegerNegative}
@@ -22,7 +20,7 @@ use Rattle.format.specs.Kinds.{id}
 use Rattle.format.specs.Mask.{has}
 use Rattle.format.specs.declared.Flaw.{Flaw}
 use Rattle.format.specs.declared.Flaw.the-variants.{Twin, Blank, Long, Low, Wide, NotUtf8, NotUniform}
-use Rattle.format.specs.Parse.{Out, fault, got, withFlaws, bind, raise, make, whole, number, readVarUInt, fixed, sized, rest}
+use Rattle.format.specs.Parse.{Out, fault, got, withFlaws, bind, raise, make, whole, readVarUInt, fixed, sized, rest}
 use Rattle.format.specs.Names.{isEmpty, readText, readName}
 use Rattle.format.specs.Tree.{Leaf, integer, float, binary, string, objectAttachment, binaryAttachment, hash, uuid, objectId, dateTime, timeSpan, customById}
 use Rattle.format.specs.Tree.{customByName}
@@ -76,11 +74,7 @@ module _ (ok : Flaw → Bool) where
   module _ (e : ok Long ≡ true) where
     only-number : (s : List ℕ) → Only ok (readVarUInt s)
     unfolding readVarUInt
-    only-number s = go (varUInt s)
-      where
-        go : (o : VarUInt) → Only ok (number o s)
-        go Cut = tt
-        go (Whole v n m) = only-raise (not m) Long (got v [] (drop n s)) e tt
+    only-number s = number-all (Only ok) (fault Early) _ s tt (λ v n m i. only-raise (not m) Long (got v [] (drop n s)) e tt)
 
     only-sized : {A : Type 0} (p : List ℕ → Out A) → ((s : List ℕ) → Only ok (p s)) → (s : List ℕ) → Only ok (sized p s)
     only-sized p f s = only-bind (readVarUInt s) (λ n r. cond (ltb (length r) n) (fault Early) (whole (p (take n r)) (drop n r))) (only-number s) λ n r.

@@ -11,6 +11,7 @@ use Rattle.number.proofs.Clash.{clash}
 use Rattle.number.specs.VarUInt.{varUInt}
 use Rattle.number.specs.declared.VarUInt.{VarUInt}
 use Rattle.number.specs.declared.VarUInt.the-variants as N
+use Rattle.number.proofs.NumberThenLaws.{number-all}
 use Rattle.number.proofs.VarUIntLaws.{var-range}
 use Rattle.text.specs.Utf8.{isText}
 use Rattle.format.specs.declared.Kind.{Kind}
@@ -35,7 +36,7 @@ use Rattle.format.specs.declared.Flaw.the-variants.{Blank, Long, NotUtf8}
 use Rattle.faults.specs.Noted.{noted, flawIf}
 use Rattle.front.specs.Code.{frontAt}
 use Rattle.front.specs.Between.{between}
-use Rattle.front.specs.Pieces.{typedAt, spanOf, spanAt, textOf, textAt, namedAt, plainOf, typedOf}
+use Rattle.front.specs.Pieces.{typedAt, spanAt, textOf, textAt, namedAt, plainOf, typedOf}
 use Rattle.faults.proofs.NotedLaws.{unasked}
 use Rattle.front.proofs.BetweenLaws.{Inside, part-length}
 use Rattle.front.proofs.FrontLaws.{front-is}
@@ -61,9 +62,9 @@ type-known m s o k h e z = ap typedOf (sym z) ∙ type-some m s o h e
 -- ---- a size
 
 module _ (m : Modes) (g : Faults) (s : List ℕ) (x : VarUInt) (e : x ≡ varUInt s) where
-  pub span-cut : x ≡ N.Cut → P.Stop Early ≡ spanAt m g s
+  pub span-cut : (k : ℕ) → x ≡ N.Cut k → P.Stop Early ≡ spanAt m g s
   unfolding spanAt
-  span-cut z = rw (← e, z)
+  span-cut k z = rw (← e, z)
 
   module _ (v n : ℕ) (u : Bool) (z : x ≡ N.Whole v n u) where
     pub span-in : n ≤ length s
@@ -81,7 +82,9 @@ module _ (m : Modes) (g : Faults) (s : List ℕ) (x : VarUInt) (e : x ≡ varUIn
 module _ (m : Modes) (g : Faults) (s : List ℕ) (x : Span) (e : x ≡ spanAt m g s) (a b : ℕ) (h : Faults) (z : x ≡ P.Part a b h) where
   span-inside : Inside a b s
   unfolding spanAt
-  span-inside = at (varUInt s) refl (sym z ∙ e)
+  span-inside =
+      number-all (λ o. P.Part a b h ≡ o → Inside a b s) (P.Stop Early) _ s (λ y. clash cc)
+      (λ v n u t y. fits v n (noted m g (flawIf (not u) Long)) (ltb (length s - n) v) (var-range s v n u t .2) refl y) (sym z ∙ e)
     where
       fits : (v n : ℕ) (f : Faults) (c : Bool) → n ≤ length s → ltb (length s - n) v ≡ c
           → P.Part a b h ≡ cond c (P.Stop Early) (P.Part n (n + v) f) → Inside a b s
@@ -90,10 +93,6 @@ module _ (m : Modes) (g : Faults) (s : List ℕ) (x : Span) (e : x ≡ spanAt m 
           let p : a ≡ n = cc in
           let q : b ≡ n + v = cc in
           record { order = omega arith; within = omega (arith, ltb-false (length s - n) v t) }
-
-      at : (o : VarUInt) → varUInt s ≡ o → P.Part a b h ≡ spanOf m g (length s) o → Inside a b s
-      at N.Cut t y = clash cc
-      at (N.Whole v n u) t y = fits v n (noted m g (flawIf (not u) Long)) (ltb (length s - n) v) (var-range s v n u t .2) refl y
 
   pub span-order : a ≤ b
   span-order = span-inside .order

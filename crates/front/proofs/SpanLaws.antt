@@ -9,8 +9,7 @@ use lib.Seq.{drop-drop}
 use lib.Dec.{ltb}
 use borrow.Author.Tests.{ltb-false}
 use Rattle.number.specs.VarUInt.{varUInt, numberThen}
-use Rattle.number.specs.declared.VarUInt.{VarUInt}
-use Rattle.number.specs.declared.VarUInt.the-variants as N
+use Rattle.number.proofs.NumberThenLaws.{number-both, number-all}
 use Rattle.number.proofs.VarUIntLaws.{var-range}
 use Rattle.text.specs.Utf8.{isText}
 use Rattle.format.specs.declared.Stop.{Stop}
@@ -20,12 +19,12 @@ use Rattle.faults.specs.declared.Faults.{Faults}
 use Rattle.front.specs.declared.Span.{Span}
 use Rattle.front.specs.declared.Span.the-variants as P
 use Rattle.format.specs.declared.Flaw.the-variants.{Long, NotUtf8}
-use Rattle.format.specs.Parse.{Out, fault, got, raise, whole, number, readVarUInt, sized, rest}
+use Rattle.format.specs.Parse.{Out, fault, got, raise, whole, readVarUInt, sized, rest}
 use Rattle.format.specs.Names.{readText}
 use Rattle.faults.specs.Noted.{noted, flawIf}
 use Rattle.front.specs.Code.{answerOf}
 use Rattle.front.specs.Between.{between}
-use Rattle.front.specs.Pieces.{spanOf, spanAt, textOf, textAt}
+use Rattle.front.specs.Pieces.{spanAt, textOf, textAt}
 use Rattle.faults.proofs.NotedLaws.{noted-none}
 use Rattle.front.proofs.AnswerLaws.{answer-raise, answer-bind}
 use Rattle.front.proofs.BetweenLaws.{Inside}
@@ -35,11 +34,8 @@ use Rattle.front.proofs.BetweenLaws.{Inside}
 pub answer-number : {B : Type 0} (stop : Stop → B) (go : ℕ → Faults → List ℕ → B) (m : Modes) (g : Faults) (s : List ℕ)
     → answerOf stop go m g (readVarUInt s) ≡ numberThen (stop Early) (λ v n x. go v (noted m g (flawIf (not x) Long)) (drop n s)) (varUInt s)
 unfolding readVarUInt
-answer-number stop go m g s = at (varUInt s)
-  where
-    at : (o : VarUInt) → answerOf stop go m g (number o s) ≡ numberThen (stop Early) (λ v n x. go v (noted m g (flawIf (not x) Long)) (drop n s)) o
-    at N.Cut = refl
-    at (N.Whole v n x) = rw (answer-raise stop go m g (not x) Long (got v [] (drop n s)), noted-none m (noted m g (flawIf (not x) Long)))
+answer-number stop go m g s = number-both (λ o b. answerOf stop go m g o ≡ b) (fault Early) _ (stop Early) _ s refl λ v n x e.
+    rw (answer-raise stop go m g (not x) Long (got v [] (drop n s)), noted-none m (noted m g (flawIf (not x) Long)))
 
 -- ---- a size, and what it counts
 
@@ -51,7 +47,8 @@ module _ {B : Type 0} (stop : Stop → B) (m : Modes) (g : Faults) (s : List ℕ
   pub span-same : (k l : ℕ → ℕ → Faults → B) → ((a e : ℕ) (h : Faults) → Inside a e s → k a e h ≡ l a e h)
       → spanThen stop k (spanAt m g s) ≡ spanThen stop l (spanAt m g s)
   unfolding spanAt
-  span-same k l f = at (varUInt s) refl
+  span-same k l f = number-all (λ o. spanThen stop k o ≡ spanThen stop l o) (P.Stop Early) _ s refl λ v n x e.
+      fits v n x (ltb (length s - n) v) (var-range s v n x e .2) refl
     where
       fits : (v n : ℕ) (x z : Bool) → n ≤ length s → ltb (length s - n) v ≡ z
           → spanThen stop k (cond z (P.Stop Early) (P.Part n (n + v) (noted m g (flawIf (not x) Long))))
@@ -60,26 +57,18 @@ module _ {B : Type 0} (stop : Stop → B) (m : Modes) (g : Faults) (s : List ℕ
       fits v n x false r e =
           f n (n + v) (noted m g (flawIf (not x) Long)) (record { order = omega arith; within = omega (arith, ltb-false (length s - n) v e) })
 
-      at : (o : VarUInt) → varUInt s ≡ o → spanThen stop k (spanOf m g (length s) o) ≡ spanThen stop l (spanOf m g (length s) o)
-      at N.Cut e = refl
-      at (N.Whole v n x) e = fits v n x (ltb (length s - n) v) (var-range s v n x e .2) refl
-
   answer-sized : {A : Type 0} (go : A → Faults → List ℕ → B) (p : List ℕ → Out A)
       → answerOf stop go m g (sized p s) ≡ spanThen stop (λ a e h. answerOf stop go m h (whole (p (between a e s)) (drop e s))) (spanAt m g s)
   unfolding spanAt
-  answer-sized go p = answer-bind stop go m g (readVarUInt s) _ ∙ (answer-number stop _ m g s ∙ at (varUInt s))
+  answer-sized go p = answer-bind stop go m g (readVarUInt s) _ ∙ (answer-number stop _ m g s ∙ number-both
+      (λ b o. b ≡ spanThen stop (λ a e h. answerOf stop go m h (whole (p (between a e s)) (drop e s))) o) (stop Early) _ (P.Stop Early) _ s refl
+      (λ v n x e. fits v n (noted m g (flawIf (not x) Long)) (ltb (length s - n) v) refl))
     where
       fits : (v n : ℕ) (h : Faults) (z : Bool) → ltb (length s - n) v ≡ z
           → answerOf stop go m h (cond (ltb (length (drop n s)) v) (fault Early) (whole (p (take v (drop n s))) (drop v (drop n s))))
           ≡ spanThen stop (λ a e h. answerOf stop go m h (whole (p (between a e s)) (drop e s))) (cond z (P.Stop Early) (P.Part n (n + v) h))
       fits v n h true e = rw (length-drop n s, e)
       fits v n h false e = let d : n + v - n ≡ v = omega arith in rw (length-drop n s, e, d, drop-drop v n s)
-
-      at : (o : VarUInt) → numberThen (stop Early) (λ v n x. answerOf stop go m (noted m g (flawIf (not x) Long))
-          (cond (ltb (length (drop n s)) v) (fault Early) (whole (p (take v (drop n s))) (drop v (drop n s))))) o
-          ≡ spanThen stop (λ a e h. answerOf stop go m h (whole (p (between a e s)) (drop e s))) (spanOf m g (length s) o)
-      at N.Cut = refl
-      at (N.Whole v n x) = fits v n (noted m g (flawIf (not x) Long)) (ltb (length s - n) v) refl
 
   -- the law that the sized kinds share
   pub sized-is : {A : Type 0} (go : A → Faults → List ℕ → B) (p : List ℕ → Out A) (l : ℕ → ℕ → Faults → B)

@@ -59,7 +59,7 @@ pub fn span_of(part: &[u8], modes: Modes, faults: Faults) -> Span
     ensures { λ r. ⌜ r ≡ spanAt modes faults (now (part .entry)) ⌝ }
 {
     match number::read(part) {
-        number::VarUInt::Cut => Span::Stop(Stop::Early),
+        number::VarUInt::Cut { missing: _ } => Span::Stop(Stop::Early),
         number::VarUInt::Whole {
             value,
             length,

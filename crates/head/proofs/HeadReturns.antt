@@ -42,15 +42,15 @@ use Rattle.head.proofs.HeadLaws.{head-is}
 -- ---- a count
 
 module _ (m : Modes) (g : Faults) (t : List ℕ) (x : VarUInt) (e : x ≡ varUInt t) where
-  pub count-cut : (a b : ℕ) → x ≡ N.Cut → H.Stop Early ≡ countOf m g a b (varUInt t)
-  count-cut a b z = rw (← e, z)
+  pub count-cut : (a b k : ℕ) → x ≡ N.Cut k → H.Stop Early ≡ countOf m g a b (varUInt t)
+  count-cut a b k z = rw (← e, z)
 
   pub count-whole : (a b v n : ℕ) (u : Bool) (h : Faults) → x ≡ N.Whole v n u → h ≡ noted m g (flawIf (not u) Long)
       → H.Items Item v (a + n) b h ≡ countOf m g a b (varUInt t)
   count-whole a b v n u h z w = rw (← e, z, w)
 
-  pub shared-cut : (a b : ℕ) → x ≡ N.Cut → H.Stop Early ≡ sharedCountOf m g a b t (varUInt t)
-  shared-cut a b z = rw (← e, z)
+  pub shared-cut : (a b k : ℕ) → x ≡ N.Cut k → H.Stop Early ≡ sharedCountOf m g a b t (varUInt t)
+  shared-cut a b k z = rw (← e, z)
 
 -- ---- a shared byte
 

@@ -97,7 +97,7 @@ fn items(part: &[u8], begin: usize, end: usize, modes: Modes, faults: Faults) ->
     ensures { λ r. ⌜ r ≡ countOf modes faults begin end (varUInt (between begin end (now (part .entry)))) ⌝ }
 {
     match number::read(&part[begin..end]) {
-        number::VarUInt::Cut => Heading::Stop(Stop::Early),
+        number::VarUInt::Cut { missing: _ } => Heading::Stop(Stop::Early),
         number::VarUInt::Whole {
             value,
             length,
@@ -145,7 +145,7 @@ fn shared_items(part: &[u8], begin: usize, end: usize, modes: Modes, faults: Fau
     ensures { λ r. ⌜ r ≡ sharedCountOf modes faults begin end (between begin end (now (part .entry))) (varUInt (between begin end (now (part .entry)))) ⌝ }
 {
     match number::read(&part[begin..end]) {
-        number::VarUInt::Cut => Heading::Stop(Stop::Early),
+        number::VarUInt::Cut { missing: _ } => Heading::Stop(Stop::Early),
         number::VarUInt::Whole {
             value,
             length,

@@ -39,14 +39,15 @@ fn print_minimal(minimal: bool) {
     }
 }
 
-// A part, and the value at its front, how many bytes it takes, and whether that is minimal.
+// A part, and the value at its front, how many bytes it takes, and whether that is minimal; or how many bytes are missing.
 fn read(part: &[u8]) {
     io::write_all(STDOUT_FILENO, b"read ");
     print_bytes(part);
     io::write_all(STDOUT_FILENO, b": ");
     match number::read(part) {
-        VarUInt::Cut => {
-            io::write_all(STDOUT_FILENO, b"cut");
+        VarUInt::Cut { missing } => {
+            io::write_all(STDOUT_FILENO, b"cut, missing ");
+            io::print_decimal(STDOUT_FILENO, missing as u64);
         }
         VarUInt::Whole {
             value,

@@ -35,21 +35,21 @@ unfolding fixedAt
 fixed-long n g s l = rw (le-ltb (length s) n l)
 
 module _ (m : Modes) (g : Faults) (t : List ℕ) (x : VarUInt) (e : x ≡ varUInt t) where
-  pub positive-cut : x ≡ N.Cut → H.Stop Early ≡ positiveOf m g (varUInt t)
-  positive-cut z = rw (← e, z)
+  pub positive-cut : (k : ℕ) → x ≡ N.Cut k → H.Stop Early ≡ positiveOf m g (varUInt t)
+  positive-cut k z = rw (← e, z)
 
   pub positive-whole : (v n : ℕ) (u : Bool) (h : Faults) → x ≡ N.Whole v n u → h ≡ noted m g (flawIf (not u) Long) → H.Leaf n h ≡ positiveOf m g (varUInt t)
   positive-whole v n u h z w = rw (← e, z, w)
 
-  pub negative-cut : x ≡ N.Cut → H.Stop Early ≡ negativeOf m g (varUInt t)
-  negative-cut z = rw (← e, z)
+  pub negative-cut : (k : ℕ) → x ≡ N.Cut k → H.Stop Early ≡ negativeOf m g (varUInt t)
+  negative-cut k z = rw (← e, z)
 
   pub negative-whole : (v n : ℕ) (u : Bool) (h f : Faults) → x ≡ N.Whole v n u → h ≡ noted m g (flawIf (not u) Long)
       → f ≡ noted m h (flawIf (not (ltb v (2 ^ 63))) Low) → H.Leaf n f ≡ negativeOf m g (varUInt t)
   negative-whole v n u h f z w y = rw (← e, z, y, w)
 
-  pub id-cut : (b : ℕ) → x ≡ N.Cut → H.Stop Early ≡ idOf m g b (varUInt t)
-  id-cut b z = rw (← e, z)
+  pub id-cut : (b k : ℕ) → x ≡ N.Cut k → H.Stop Early ≡ idOf m g b (varUInt t)
+  id-cut b k z = rw (← e, z)
 
   pub id-whole : (b v n : ℕ) (u : Bool) (h : Faults) → x ≡ N.Whole v n u → h ≡ noted m g (flawIf (not u) Long) → H.Leaf b h ≡ idOf m g b (varUInt t)
   id-whole b v n u h z w = rw (← e, z, w)

@@ -50,7 +50,7 @@ pub fn positive(part: &[u8], modes: Modes, faults: Faults) -> Heading
     ensures { λ r. ⌜ r ≡ positiveOf modes faults (varUInt (now (part .entry))) ⌝ }
 {
     match number::read(part) {
-        number::VarUInt::Cut => Heading::Stop(Stop::Early),
+        number::VarUInt::Cut { missing: _ } => Heading::Stop(Stop::Early),
         number::VarUInt::Whole {
             value: _,
             length,
@@ -66,7 +66,7 @@ pub fn negative(part: &[u8], modes: Modes, faults: Faults) -> Heading
     ensures { λ r. ⌜ r ≡ negativeOf modes faults (varUInt (now (part .entry))) ⌝ }
 {
     match number::read(part) {
-        number::VarUInt::Cut => Heading::Stop(Stop::Early),
+        number::VarUInt::Cut { missing: _ } => Heading::Stop(Stop::Early),
         number::VarUInt::Whole {
             value,
             length,
@@ -116,7 +116,7 @@ pub fn custom_by_id(inside: &[u8], end: usize, modes: Modes, faults: Faults) -> 
     ensures { λ r. ⌜ r ≡ idOf modes faults end (varUInt (now (inside .entry))) ⌝ }
 {
     match number::read(inside) {
-        number::VarUInt::Cut => Heading::Stop(Stop::Early),
+        number::VarUInt::Cut { missing: _ } => Heading::Stop(Stop::Early),
         number::VarUInt::Whole {
             value: _,
             length: _,

@@ -2,6 +2,8 @@ pub mod BigEndianLaws
 pub mod ReachedLaws
 pub mod VarUIntLaws
 pub mod NumberThenLaws
+pub mod MissingLaws
+pub mod PinnedVarUInts
 pub mod ReadLaws
 pub mod FixedLaws
 pub mod SignedLaws

@@ -14,7 +14,7 @@ One {A} d = (a b : A) → a ≡ d → b ≡ d → a ≡ b
 pub one : {A : Type 0} (d : A) → One d
 one d a b e f = e ∙⁻¹ f
 
--- not: one that gives every VarUInt one byte; one that calls every form minimal
+-- not: one that gives every VarUInt one byte; one that calls every form minimal; one that tells a cut with no byte missing
 pub read-one : (part : List ℕ) → One (varUInt part)
 read-one part = one (varUInt part)
 

@@ -24,7 +24,7 @@ pub bytes-of : (s : List ℕ) → Known s → Bytes s
 bytes-of [] g = tt
 bytes-of (b ∷ s) g = (g 0 .fits, bytes-of s (λ i. g (suc i)))
 
-pub read-none : (s : List ℕ) → length s ≡ 0 → Cut ≡ varUInt s
+pub read-none : (s : List ℕ) → length s ≡ 0 → Cut 1 ≡ varUInt s
 unfolding varUInt
 read-none [] h = refl
 read-none (b ∷ s) h = absurd (omega arith)
@@ -50,8 +50,10 @@ read-one s v h l e =
       le-leb 0 (getD s 0 0) (omega arith),
     )
 
-pub read-cut : (s : List ℕ) (n : ℕ) → 0 < length s → n ≡ following (getD s 0 0) → length s ≤ n → Cut ≡ varUInt s
-read-cut s n h e l = rw (split-first s n h e, lt-ltb (length (drop 1 s)) n (omega (arith, rest-length s h))) refl
+pub read-cut : (s : List ℕ) (n : ℕ) → 0 < length s → n ≡ following (getD s 0 0) → length s ≤ n → Cut (n - (length s - 1)) ≡ varUInt s
+read-cut s n h e l =
+    let m : length s - 1 ≡ length (drop 1 s) = omega (arith, rest-length s h) in
+    rw (split-first s n h e, lt-ltb (length (drop 1 s)) n (omega (arith, rest-length s h)), m)
 
 pub following-known : (s : List ℕ) (n : ℕ) → Known s → n ≡ following (getD s 0 0) → Following n (getD s 0 0)
 following-known s n g e = rw e (following-is (getD s 0 0) (g 0 .fits))

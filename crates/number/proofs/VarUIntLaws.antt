@@ -119,12 +119,13 @@ pub record Made (n b : ℕ) (s : List ℕ) (v k : ℕ) (m : Bool) : Type 0 where
   pub length-is : k ≡ suc n
   pub minimal : leb (bound n) (valueOf n b s) ≡ m
 
-made : (n b : ℕ) (s : List ℕ) (v k : ℕ) (m : Bool) → answer n b s ≡ Whole v k m → Made n b s v k m
-made n b s v k m h = go (ltb (length s) n) refl h
+pub made : (n b : ℕ) (s : List ℕ) (v k : ℕ) (m : Bool) → answer n b s ≡ Whole v k m → Made n b s v k m
+made n b s v k m h = go (ltb (length s) n) _ refl h
   where
-    go : (x : Bool) → ltb (length s) n ≡ x → cond x Cut (Whole (valueOf n b s) (suc n) (leb (bound n) (valueOf n b s))) ≡ Whole v k m → Made n b s v k m
-    go true e h = let z : _≡_ {A = ℕ} 0 1 = cc in absurd (omega arith)
-    go false e h = record { room = ltb-false (length s) n e; value = cc; length-is = cc; minimal = cc }
+    go : (x : Bool) (c : ℕ) → ltb (length s) n ≡ x
+        → cond x (Cut c) (Whole (valueOf n b s) (suc n) (leb (bound n) (valueOf n b s))) ≡ Whole v k m → Made n b s v k m
+    go true c e h = let z : _≡_ {A = ℕ} 0 1 = cc in absurd (omega arith)
+    go false c e h = record { room = ltb-false (length s) n e; value = cc; length-is = cc; minimal = cc }
 
 pub answer-whole : (n b : ℕ) (s : List ℕ) → n ≤ length s → answer n b s ≡ Whole (valueOf n b s) (suc n) (leb (bound n) (valueOf n b s))
 answer-whole n b s h = rw (le-ltb (length s) n)

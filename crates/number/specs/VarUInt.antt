@@ -36,17 +36,18 @@ following b = reached leads b
 abbrev pub valueOf : ℕ → ℕ → List ℕ → ℕ
 valueOf n b s = behind (b - lead n) (take n s)
 
+-- n bytes have to follow b: cut, and how many of them are missing; or whole
 abbrev pub answer : ℕ → ℕ → List ℕ → VarUInt
-answer n b s = cond (ltb (length s) n) Cut (Whole (valueOf n b s) (suc n) (leb (bound n) (valueOf n b s)))
+answer n b s = cond (ltb (length s) n) (Cut (n - length s)) (Whole (valueOf n b s) (suc n) (leb (bound n) (valueOf n b s)))
 
--- what stands at the front
+-- what stands at the front. Where nothing stands, one byte is missing: the first, which tells how many follow
 unfoldable pub varUInt : List ℕ → VarUInt
-varUInt [] = Cut
+varUInt [] = Cut 1
 varUInt (b ∷ s) = answer (following b) b s
 
--- what is made of a number that was read: of one that is cut, and of a value, its length and whether that is minimal
+-- for callers to whom every cut is the same: what is made of one, however many bytes are missing; and of a value, its length and whether that is minimal
 abbrev pub numberThen : {B : Type 0} → B → (ℕ → ℕ → Bool → B) → VarUInt → B
-numberThen cut whole Cut = cut
+numberThen cut whole (Cut n) = cut
 numberThen cut whole (Whole v n x) = whole v n x
 
 -- the form with n bytes behind the first

@@ -8,10 +8,12 @@ ghost use Rattle.number.specs.Fixed.{fixed32, fixed64};
 ghost use Rattle.number.specs.Negative.{negative};
 ghost use Rattle.number.specs.Signed.{fromTwos};
 
-// What stands at the front of a part: a VarUInt that the part cuts off; or a whole one, with its value, how many bytes it takes,
-// and whether no shorter form holds the value.
+// What stands at the front of a part: a VarUInt that the part cuts off, with how many of the bytes that its first byte calls for are missing, 1 for
+// an empty part; or a whole one, with its value, how many bytes it takes, and whether no shorter form holds the value.
 pub enum VarUInt {
-    Cut,
+    Cut {
+        missing: usize,
+    },
     Whole {
         value: u64,
         length: usize,
@@ -81,7 +83,7 @@ pub fn read(part: &[u8]) -> VarUInt
     ensures { λ r. ⌜ r ≡ var.varUInt (now (part .entry)) ⌝ }
 {
     if part.len() == 0 {
-        return VarUInt::Cut;
+        return VarUInt::Cut { missing: 1 };
     }
     let b = part[0];
     let n = following(b);
@@ -93,7 +95,9 @@ pub fn read(part: &[u8]) -> VarUInt
         };
     }
     if part.len() <= n {
-        return VarUInt::Cut;
+        return VarUInt::Cut {
+            missing: n - (part.len() - 1),
+        };
     }
     let value = gather(part, wide(b) - lead(n), 1, n + 1);
     VarUInt::Whole {

@@ -12,8 +12,7 @@ use borrow.Author.Tests.{ltb-false}
 use Rattle.number.specs.BigEndian.{fromBytes}
 use Rattle.number.specs.Signed.{fromTwos}
 use Rattle.number.specs.VarUInt.{varUInt}
-use Rattle.number.specs.declared.VarUInt.{VarUInt}
-use Rattle.number.specs.declared.VarUInt.the-variants.{Cut, Whole}
+use Rattle.number.proofs.NumberThenLaws.{number-both}
 use Rattle.text.specs.Utf8.{isText}
 use Rattle.float.specs.Rule.{holds}
 use Rattle.format.specs.declared.Kind.{Kind}
@@ -30,7 +29,7 @@ use Rattle.format.specs.declared.Stop.the-variants.{Early}
 use Rattle.format.specs.Kinds.{typeByte, kindAt, isBare}
 use Rattle.format.specs.declared.Flaw.{Flaw}
 use Rattle.format.specs.declared.Flaw.the-variants.{Long, Low, Wide, NotUtf8, Blank}
-use Rattle.format.specs.Parse.{Out, fault, got, bind, raise, make, whole, number, readVarUInt, fixed, sized, rest}
+use Rattle.format.specs.Parse.{Out, fault, got, bind, raise, make, whole, readVarUInt, fixed, sized, rest}
 use Rattle.format.specs.Names.{isEmpty, readText, readName}
 use Rattle.format.specs.Tree.{Leaf, integer, float, binary, string, objectAttachment, binaryAttachment, hash, uuid, objectId, dateTime, timeSpan}
 use Rattle.format.specs.Payload.{kindFound, readType, front, float32, float64, readNegative, readFloat64, readCustomById, readCustomByName, payload, Head}
@@ -48,11 +47,8 @@ use Rattle.number.proofs.Clash.{clash}
 
 pub number-taken : (s : List ℕ) {v : ℕ} {fs : List Flaw} {r : List ℕ} → readVarUInt s ≡ got v fs r → drop (taken (varUInt s)) s ≡ r
 unfolding readVarUInt
-number-taken s {v} {fs} {r} h = go (varUInt s) h
-  where
-    go : (o : VarUInt) → number o s ≡ got v fs r → drop (taken o) s ≡ r
-    go Cut h = never h
-    go (Whole u n x) h = raise-got (not x) Long (got u [] (drop n s)) h λ gs k. cc
+number-taken s {v} {fs} {r} =
+    number-both (λ o n. o ≡ got v fs r → drop n s ≡ r) (fault Early) _ 0 _ s never (λ u n x e h. raise-got (not x) Long (got u [] (drop n s)) h λ gs k. cc)
 
 -- the size w, the bytes b that it counts, and what follows
 pub sized-read : {A X : Type 0} (p : List ℕ → Out A) (s : List ℕ) {a : A} {fs : List Flaw} {r : List ℕ} → sized p s ≡ got a fs r

@@ -9,8 +9,7 @@ use lib.ListN.{length, take, drop, length-append, take-append-drop}
 use lib.Seq.{slice, length-take-le}
 use borrow.Author.Tests.{le-ltb, ne-eqb}
 use Rattle.number.specs.VarUInt.{varUInt}
-use Rattle.number.specs.declared.VarUInt.{VarUInt}
-use Rattle.number.specs.declared.VarUInt.the-variants.{Cut, Whole}
+use Rattle.number.proofs.NumberThenLaws.{number-all}
 use Rattle.number.proofs.VarUIntLaws.{var-range}
 use Rattle.format.specs.declared.Kind.{Kind}
 use Rattle.format.specs.declared.Known.the-variants.{Is}
@@ -49,12 +48,11 @@ pub record ReadAt (d : ℕ) (s : List ℕ) (c : Place) (x : Standing (Node (Stan
   pub body : contents (read d) above ≡ got (x .1) body-flaws []
 
 pub size-le : (k : Kind) (b : List ℕ) → sizeLength (Is k) b ≤ length b
-size-le k b = go (hasSize k) (varUInt b) refl
+size-le k b = go (hasSize k)
   where
-    go : (x : Bool) (o : VarUInt) → varUInt b ≡ o → cond x (taken o) 0 ≤ length b
-    go true Cut e = omega arith
-    go true (Whole v n y) e = var-range b v n y e .2
-    go false o e = omega arith
+    go : (x : Bool) → cond x (taken (varUInt b)) 0 ≤ length b
+    go true = number-all (λ n. n ≤ length b) 0 _ b (omega arith) (λ v n y e. var-range b v n y e .2)
+    go false = omega arith
 
 module _ {d : ℕ} {s : List ℕ} {c : Place} {x : Standing (Node (Standing (Layout d)))} (m : length s ≤ lengthLimit) (i : ReadAt d s c x) where
   pub found : check s c ≡ got (i .above) (i .above-flaws) []

@@ -4,14 +4,14 @@ use Prim.Native.Nat.{ℕ, zero, suc, _+_, _-_, _≤_}
 use native.Mathlib.Omega.{arith}
 use mathlib.Core.Path.{_≡_, refl, sym, ap, _∙_, subst}
 use mathlib.Core.Logic.{_⊎_, inl, inr}
-use mathlib.Core.Bool.{true, not, cond}
+use mathlib.Core.Bool.{Bool, true, not, cond}
 use mathlib.Core.Option.{some}
 use mathlib.Core.List.{List, [], _∷_, _++_, map, append-assoc}
 use lib.ListN.{length, take, drop, length-append, length-drop, take-append-drop}
 use lib.Seq.{slice, length-slice}
 use Rattle.number.specs.VarUInt.{varUInt}
-use Rattle.number.specs.declared.VarUInt.{VarUInt}
-use Rattle.number.specs.declared.VarUInt.the-variants.{Cut, Whole}
+use Rattle.number.specs.declared.VarUInt.the-variants.{Whole}
+use Rattle.number.proofs.NumberThenLaws.{number-all}
 use Rattle.number.proofs.VarUIntLaws.{var-range, var-local}
 use Rattle.format.specs.declared.Kind.{Kind}
 use Rattle.format.specs.declared.Kind.the-variants.{Object, UniformObject, Array, UniformArray}
@@ -29,7 +29,7 @@ use Rattle.places.specs.declared.Top.the-variants as T
 use Rattle.format.specs.Kinds.{id, known, hasSize, typeByte}
 use Rattle.format.specs.declared.Flaw.{Flaw}
 use Rattle.format.specs.declared.Flaw.the-variants.{Long}
-use Rattle.format.specs.Parse.{Out, fault, got, number, readVarUInt}
+use Rattle.format.specs.Parse.{Out, fault, got, readVarUInt, raise}
 use Rattle.format.specs.Tree.{Node, atom, array, object}
 use Rattle.format.specs.Payload.{Payload, leaf, fields, sharedFields, items, sharedItems, payload, Head}
 use Rattle.format.specs.Reader.{Standing, Named, Layout, kindsIn}
@@ -105,11 +105,10 @@ good-view s p h = at (check s p) refl h
 
 size-taken : (w x : List ℕ) (n : ℕ) → Reads readVarUInt w n → taken (varUInt (w ++ x)) ≡ length w
 unfolding readVarUInt
-size-taken w x n r = go (varUInt w) refl (r .1)
+size-taken w x n r = number-all (λ o. o ≡ got n (r .0) [] → taken (varUInt (w ++ x)) ≡ length w) _ _ w never go (r .1)
   where
-    go : (o : VarUInt) → varUInt w ≡ o → number o w ≡ got n (r .0) [] → taken (varUInt (w ++ x)) ≡ length w
-    go Cut e h = never h
-    go (Whole v k m) e h = raise-got (not m) Long (got v [] (drop k w)) h λ gs j.
+    go : (v k : ℕ) (m : Bool) → varUInt w ≡ Whole v k m → raise (not m) Long (got v [] (drop k w)) ≡ got n (r .0) [] → taken (varUInt (w ++ x)) ≡ length w
+    go v k m e h = raise-got (not m) Long (got v [] (drop k w)) h λ gs j.
         let z : drop k w ≡ [] = cc in
         let t : take k w ≡ w = sym (append-nil (take k w)) ∙ ap (λ y. take k w ++ y) (sym z) ∙ take-append-drop k w in
         let i = var-range w v k m e in

@@ -5,9 +5,8 @@ use mathlib.Core.List.{List, [], _∷_}
 use lib.ListN.{length, drop}
 use lib.Seq.{slice}
 use lib.Dec.{eqb, ltb}
-use Rattle.number.specs.VarUInt.{varUInt}
+use Rattle.number.specs.VarUInt.{varUInt, numberThen}
 use Rattle.number.specs.declared.VarUInt.{VarUInt}
-use Rattle.number.specs.declared.VarUInt.the-variants.{Cut, Whole}
 use Rattle.text.specs.Equal.{equal}
 use Rattle.format.specs.declared.Kind.{Kind}
 use Rattle.format.specs.declared.Known.{Known}
@@ -123,8 +122,7 @@ nameView s c l = nameIn s (step s c l)
 
 -- how many bytes the size takes, if there is one
 abbrev pub taken : VarUInt → ℕ
-taken Cut = 0
-taken (Whole v n m) = n
+taken = numberThen 0 (λ v n m. n)
 
 abbrev pub sizeLength : Known → List ℕ → ℕ
 sizeLength Unknown s = 0

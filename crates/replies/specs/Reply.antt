@@ -49,8 +49,9 @@ told n r l = cond (ltb (length l) n) (afterwards tooFew l) (afterwards (r .code)
 
 -- ---- each answer
 
+-- a cut one is told by 1, as bytes that end early are, and by how many are missing
 abbrev pub varuintReply : VarUInt → Reply
-varuintReply Cut = only 1
+varuintReply (Cut n) = record { code = 1; values = n ∷ [] }
 varuintReply (Whole v n m) = given (v ∷ n ∷ truth m ∷ [])
 
 -- three numbers are asked for, whatever the part holds

@@ -37,7 +37,7 @@ fn twos_of(z: i64) -> u64
     z as u64
 }
 
-// A whole VarUInt is told by its value, the bytes it takes, and 1 if it is minimal.
+// A whole VarUInt is told by its value, the bytes it takes, and 1 if it is minimal; a cut one by how many bytes are missing.
 pub fn varuint(answer: VarUInt, held: &mut [u64]) -> u32
     ensures { λ r. ⌜ afterwards r (now (held .exit)) ≡ told 3 (varuintReply answer) (now (held .entry)) ⌝ }
 {
@@ -45,7 +45,10 @@ pub fn varuint(answer: VarUInt, held: &mut [u64]) -> u32
         return TOO_FEW;
     }
     match answer {
-        VarUInt::Cut => 1,
+        VarUInt::Cut { missing } => {
+            held[0] = missing as u64;
+            1
+        }
         VarUInt::Whole {
             value,
             length,

@@ -7,9 +7,7 @@ use lib.ListN.{length, take, drop}
 use lib.Dec.{ltb}
 use lib.IntN.{pos, negsuc}
 use Rattle.number.specs.BigEndian.{fromBytes}
-use Rattle.number.specs.VarUInt.{varUInt}
-use Rattle.number.specs.declared.VarUInt.{VarUInt}
-use Rattle.number.specs.declared.VarUInt.the-variants.{Cut, Whole}
+use Rattle.number.proofs.NumberThenLaws.{number-all}
 use Rattle.text.specs.Utf8.{isText}
 use Rattle.float.specs.Rule.{holds}
 use Rattle.format.specs.declared.Kind.{Kind}
@@ -26,7 +24,7 @@ use Rattle.format.specs.declared.Stop.the-variants.{Early, BadUniform}
 use Rattle.format.specs.Kinds.{kindAt, same, isBare}
 use Rattle.format.specs.declared.Flaw.{Flaw}
 use Rattle.format.specs.declared.Flaw.the-variants.{Blank, Long, Low, Wide, NotUtf8}
-use Rattle.format.specs.Parse.{Out, got, bind, make, number, readVarUInt, fixed, sized, rest}
+use Rattle.format.specs.Parse.{Out, got, bind, make, readVarUInt, fixed, sized, rest, fault}
 use Rattle.format.specs.Names.{isEmpty, readText, readName}
 use Rattle.format.specs.Tree.{Leaf, null, bool, integer, float, binary, string, objectAttachment, binaryAttachment, hash, uuid, objectId, customById}
 use Rattle.format.specs.Tree.{customByName, atom}
@@ -59,11 +57,8 @@ HeadTells f k c (itemsIn g n s) b = (b ≡ c) × (isNamed g ≡ false) × (isTyp
 module _ (f : Flaw) (shows : is f Long ≡ false) where
   tells-number : (c : Bool) (s : List ℕ) → Tells f c (Keeps c) (readVarUInt s)
   unfolding readVarUInt
-  tells-number c s = go (varUInt s)
-    where
-      go : (o : VarUInt) → Tells f c (Keeps c) (number o s)
-      go Cut = record { says = tt }
-      go (Whole v n m) = tells-raise f c (Keeps c) (not m) Long _ (tells-got f (c || (is f Long && not m)) (Keeps c) v (drop n s) (rw (shows, or-false c)))
+  tells-number c s = number-all (Tells f c (Keeps c)) (fault Early) _ s (record { says = tt }) λ v n m e.
+      tells-raise f c (Keeps c) (not m) Long _ (tells-got f (c || (is f Long && not m)) (Keeps c) v (drop n s) (rw (shows, or-false c)))
 
   tells-sized : {A : Type 0} (c : Bool) (P : A → Bool → Type 0) (p : List ℕ → Out A) → ((b : List ℕ) → Tells f c P (p b)) → (s : List ℕ)
       → Tells f c P (sized p s)

@@ -2,6 +2,7 @@
 use Prim.Native.Nat.{ℕ, zero, suc, _^_, _≤_, _<_}
 use native.Mathlib.Omega.{arith}
 use mathlib.Core.Path.{_≡_, refl, sym, ap, subst, _∙_}
+use mathlib.Core.Logic.{_↔_}
 use mathlib.Core.Bool.{Bool, true, false, not, _||_, cond}
 use mathlib.Core.List.{List, [], _∷_, _++_}
 use lib.ListN.{length, take, drop, getD, take-append-drop}
@@ -11,13 +12,13 @@ use borrow.Author.Tests.{lt-ltb, leb-true, leb-false}
 use Rattle.number.proofs.Clash.{clash}
 use Rattle.number.specs.BigEndian.{Bytes}
 use Rattle.number.specs.VarUInt.{reached, bounds, bound, varUInt, form, encoded}
-use Rattle.number.specs.declared.VarUInt.{VarUInt}
-use Rattle.number.specs.declared.VarUInt.the-variants.{Cut, Whole}
+use Rattle.number.specs.declared.VarUInt.the-variants.{Whole}
+use Rattle.number.proofs.NumberThenLaws.{number-all}
 use Rattle.number.proofs.VarUIntLaws.{limit, limit-whole, needed-at, form-reads, form-length, measured, encoded-at, encoded-bytes, var-rt, var-form, var-range}
 use Rattle.number.proofs.VarUIntLaws.{var-local, var-inv}
 use Rattle.format.specs.declared.Flaw.{Flaw}
 use Rattle.format.specs.declared.Flaw.the-variants.{Twin, Blank, Long, Low, Wide, NotUtf8, NotUniform}
-use Rattle.format.specs.Parse.{got, raise, number, readVarUInt}
+use Rattle.format.specs.Parse.{got, raise, readVarUInt}
 use Rattle.format.specs.Mask.{has}
 use Rattle.spelling.specs.Spells.{anyForm, minimalForm}
 use Rattle.format.proofs.Back.{never, number-rt}
@@ -72,11 +73,10 @@ number-from w v m e r =
 number-to : {X : Type 0} (s : List ℕ) (v : ℕ) (fs : List Flaw) (r : List ℕ) → readVarUInt s ≡ got v fs r
     → ((w : List ℕ) (m : Bool) → s ≡ w ++ r → varUInt w ≡ Whole v (length w) m → raise (not m) Long (got v [] r) ≡ got v fs r → X) → X
 unfolding readVarUInt
-number-to {X} s v fs r h k = go (varUInt s) refl h
+number-to {X} s v fs r h k = number-all (λ o. o ≡ got v fs r → X) _ _ s never go h
   where
-    go : (o : VarUInt) → varUInt s ≡ o → number o s ≡ got v fs r → X
-    go Cut e h = never h
-    go (Whole u n m) e h = raise-got (not m) Long (got u [] (drop n s)) h λ gs i.
+    go : (u n : ℕ) (m : Bool) → varUInt s ≡ Whole u n m → raise (not m) Long (got u [] (drop n s)) ≡ got v fs r → X
+    go u n m e h = raise-got (not m) Long (got u [] (drop n s)) h λ gs i.
         let y : drop n s ≡ r = cc in
         let x : u ≡ v = cc in
         let l : length (take n s) ≡ n = length-take-le n s (var-range s u n m e .2) in
@@ -137,6 +137,19 @@ minimal-encoded v u i = (omega (arith, limit-whole (f .0) (f .1), f .2), go (f .
     go : (n : ℕ) → n ≤ 8 → v < limit n → u ≡ form n v → (x : Bool) → leb (bound n) v ≡ x → u ≡ encoded v
     go n l h e true k = e ∙ sym (encoded-at n v (needed-at n v l (leb-true (bound n) v k) h))
     go n l h e false k = absurd (shorter n l e (leb-false (bound n) v k))
+
+-- what is read is minimal exactly if no shorter form holds the value
+pub minimal-exactly : (s : List ℕ) (v n : ℕ) (m : Bool) → Bytes s → varUInt s ≡ Whole v n m → (m ≡ true) ↔ minimalForm v (take n s)
+minimal-exactly s v n m y e = (
+  (λ h.
+      let i = var-inv s v n y (rw h at e) in
+      encoded-minimal v (take n s) (i .0, ap (take n) (i .2) ∙ take-at (encoded v) (drop n s) n (sym (i .1)))),
+  λ k.
+      let i = minimal-encoded v (take n s) k in
+      let j : encoded v ++ drop n s ≡ s = ap (λ u. u ++ drop n s) (sym (i .1)) ∙ take-append-drop n s in
+      let r : varUInt s ≡ Whole v (length (encoded v)) true = rw j at (var-rt v (drop n s) (i .0)) in
+      cc,
+)
 
 pub any-number : Front Any readVarUInt anyForm
 any-number = record {

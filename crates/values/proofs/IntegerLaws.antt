@@ -89,8 +89,8 @@ module _ (t : Bool) (m : ℕ) where
 
 -- an integer's M is read as its kind says
 module _ (t : Bool) (s : List ℕ) (x : VarUInt) (i : x ≡ varUInt s) where
-  pub integer-cut : x ≡ N.Cut → Va.Other ≡ integerIn t (varUInt s)
-  integer-cut e = rw (← i, e)
+  pub integer-cut : (k : ℕ) → x ≡ N.Cut k → Va.Other ≡ integerIn t (varUInt s)
+  integer-cut k e = rw (← i, e)
 
   module _ (v n : ℕ) (m : Bool) (e : x ≡ N.Whole v n m) where
     pub integer-negative : t ≡ true → Va.Negative v ≡ integerIn t (varUInt s)

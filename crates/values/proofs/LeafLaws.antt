@@ -10,8 +10,7 @@ use Rattle.number.specs.BigEndian.{fromBytes}
 use Rattle.number.specs.Signed.{minusPlusOne, fromTwos}
 use Rattle.number.specs.VarUInt.{varUInt}
 use Rattle.number.specs.Fixed.{fixed32, fixed64}
-use Rattle.number.specs.declared.VarUInt.{VarUInt}
-use Rattle.number.specs.declared.VarUInt.the-variants as N
+use Rattle.number.proofs.NumberThenLaws.{number-both}
 use Rattle.float.specs.Rule.{holds}
 use Rattle.float.specs.Width.{isNan32, isNan64, widen}
 use Rattle.format.specs.declared.Kind.{Kind}
@@ -23,7 +22,6 @@ use Rattle.format.specs.Kinds.{id}
 use Rattle.format.specs.declared.Flaw.{Flaw}
 use Rattle.format.specs.declared.Flaw.the-variants.{Low, Wide, Long}
 use Rattle.format.specs.Parse.{Out, fault, got, bind, raise, make, readVarUInt, fixed, sized, rest}
-use Rattle.format.specs.Parse as parse
 use Rattle.format.specs.Names.{readText}
 use Rattle.format.specs.Tree.{Leaf, null, bool, integer, float, binary, string, objectAttachment, binaryAttachment, hash, uuid, objectId}
 use Rattle.format.specs.Tree.{dateTime, timeSpan, customById, customByName}
@@ -40,11 +38,8 @@ use Rattle.places.proofs.Containers.{head-contained}
 
 number-is : (t : Bool) (s : List ℕ) {m : ℕ} {fs : List Flaw} {r : List ℕ} → readVarUInt s ≡ got m fs r → integerIn t (varUInt s) ≡ integerBy t m
 unfolding readVarUInt
-number-is t s {m} {fs} {r} h = at (varUInt s) h
-  where
-    at : (o : VarUInt) → parse.number o s ≡ got m fs r → integerIn t o ≡ integerBy t m
-    at N.Cut h = never h
-    at (N.Whole v n x) h = raise-got (not x) Long (got v [] (drop n s)) h λ gs k. let z : v ≡ m = cc in ap (integerBy t) z
+number-is t s {m} {fs} {r} = number-both (λ o i. o ≡ got m fs r → i ≡ integerBy t m) (fault Early) _ Va.Other _ s never λ v n x e h.
+    raise-got (not x) Long (got v [] (drop n s)) h λ gs k. let z : v ≡ m = cc in ap (integerBy t) z
 
 fixed-is : (n : ℕ) (s : List ℕ) {b : List ℕ} {fs : List Flaw} {r : List ℕ} → fixed n s ≡ got b fs r → (ltb (length s) n ≡ false) × (take n s ≡ b)
 unfolding fixed

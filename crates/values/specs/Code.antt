@@ -4,11 +4,10 @@ use mathlib.Core.Bool.{Bool, true, false, cond}
 use mathlib.Core.List.{List}
 use lib.Dec.{eqb}
 use lib.IntN.{ℤ, pos, negsuc}
-use Rattle.number.specs.VarUInt.{varUInt}
+use Rattle.number.specs.VarUInt.{varUInt, numberThen}
 use Rattle.number.specs.Fixed.{fixed32, fixed64}
 use Rattle.number.specs.Signed.{fromTwos}
 use Rattle.number.specs.declared.VarUInt.{VarUInt}
-use Rattle.number.specs.declared.VarUInt.the-variants as N
 use Rattle.number.specs.declared.Fixed32.{Fixed32}
 use Rattle.number.specs.declared.Fixed32.the-variants as X
 use Rattle.number.specs.declared.Fixed64.{Fixed64}
@@ -44,8 +43,7 @@ integerBy true m = Va.Negative m
 integerBy false m = Va.Positive m
 
 abbrev pub integerIn : Bool → VarUInt → Value
-integerIn t N.Cut = Va.Other
-integerIn t (N.Whole v n m) = integerBy t v
+integerIn t = numberThen Va.Other (λ v n m. integerBy t v)
 
 abbrev pub float32In : Fixed32 → Value
 float32In X.Cut = Va.Other

@@ -29,7 +29,7 @@ fn integer_in(part: &[u8], negative: bool) -> Value
     ensures { λ r. ⌜ r ≡ integerIn negative (varUInt (now (part .entry))) ⌝ }
 {
     match number::read(part) {
-        number::VarUInt::Cut => Value::Other,
+        number::VarUInt::Cut { missing: _ } => Value::Other,
         number::VarUInt::Whole {
             value,
             length: _,

@@ -2,7 +2,7 @@
 use Prim.Native.Nat.{ℕ, _+_, _-_, _≤_}
 use native.Mathlib.Omega.{arith}
 use mathlib.Core.Path.{_≡_, refl, sym, ap, _∙_}
-use mathlib.Core.Bool.{Bool, true, false, _||_, _&&_, cond}
+use mathlib.Core.Bool.{Bool, true, false, _||_, _&&_}
 use mathlib.Core.List.{List, []}
 use lib.ListN.{length}
 use lib.Seq.{slice, length-slice}
@@ -10,7 +10,6 @@ use lib.Dec.{ltb}
 use Rattle.number.specs.VarUInt.{varUInt}
 use Rattle.number.specs.declared.VarUInt.{VarUInt}
 use Rattle.number.specs.declared.VarUInt.the-variants as N
-use Rattle.number.proofs.VarUIntLaws.{var-range}
 use Rattle.format.specs.declared.Kind.{Kind}
 use Rattle.format.specs.declared.Kind.the-variants.{Null, Object, UniformObject, Array, UniformArray, Binary, String, IntegerPositive, IntegerNegative}
 use Rattle.format.specs.declared.Kind.the-variants.{Float32, Float64, False, True, ObjectAttachment, BinaryAttachment, Hash, Uuid, DateTime, TimeSpan}
@@ -29,8 +28,9 @@ use Rattle.places.specs.declared.Part.the-variants as P
 use Rattle.format.specs.Kinds.{id, known, hasSize}
 use Rattle.format.specs.Parse.{Out, fault, got}
 use Rattle.format.specs.Payload.{Head}
-use Rattle.places.specs.Places.{check, checkedOf, checked, from, step, nameIn, nameView, taken, sizeLength, partOf, part, view}
+use Rattle.places.specs.Places.{check, checkedOf, checked, from, step, nameIn, nameView, sizeLength, partOf, part, view}
 use Rattle.front.specs.Between.{between}
+use Rattle.places.proofs.ReadPlaces.{size-le}
 use Rattle.places.proofs.StepFields.{in-along, step-inv}
 use Rattle.open.proofs.OpenLaws.{sound-good, slice-is}
 use Rattle.number.proofs.Clash.{clash}
@@ -92,20 +92,15 @@ module _ (w : Known) (k : Kind) (z : w ≡ W.Is k) (s : List ℕ) (t : Bool) (e 
   size-none h = rw (z, ← e, h)
 
   module _ (h : t ≡ true) (v : VarUInt) (i : v ≡ varUInt s) where
-    pub size-cut : v ≡ N.Cut → 0 ≡ sizeLength w s
-    size-cut j = rw (z, ← e, h, ← i, j)
+    pub size-cut : (k : ℕ) → v ≡ N.Cut k → 0 ≡ sizeLength w s
+    size-cut k j = rw (z, ← e, h, ← i, j)
 
     pub size-whole : (a n : ℕ) (m : Bool) → v ≡ N.Whole a n m → n ≡ sizeLength w s
     size-whole a n m j = rw (z, ← e, h, ← i, j)
 
 size-in : (w : Known) (s : List ℕ) → sizeLength w s ≤ length s
 size-in W.Unknown s = omega arith
-size-in (W.Is k) s = by (hasSize k) (varUInt s) refl
-  where
-    by : (t : Bool) (v : VarUInt) → varUInt s ≡ v → cond t (taken v) 0 ≤ length s
-    by false v e = omega arith
-    by true N.Cut e = omega arith
-    by true (N.Whole a n m) e = var-range s a n m e .2
+size-in (W.Is k) s = size-le k s
 
 -- ---- a place's view
 

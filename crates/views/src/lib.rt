@@ -47,7 +47,7 @@ fn size_length(part: &[u8], known: Known) -> usize
         Known::Is(kind) => {
             if has_size(kind) {
                 return match number::read(part) {
-                    number::VarUInt::Cut => 0,
+                    number::VarUInt::Cut { missing: _ } => 0,
                     number::VarUInt::Whole {
                         value: _,
                         length,

@@ -4,7 +4,7 @@ use std::fmt::Write;
 
 use crate::independent::places::{Place, Refused};
 use crate::independent::write::Refusal;
-use crate::independent::{mask, program};
+use crate::independent::{mask, number, program};
 use crate::reading::Reading;
 use crate::writing;
 
@@ -12,6 +12,7 @@ use crate::writing;
 #[derive(Clone, Debug, PartialEq, Eq)]
 pub enum Question {
     Mask { modes: u32, bytes: Vec<u8> },
+    VarUInt { bytes: Vec<u8> },
     Top { bytes: Vec<u8> },
     Step { bytes: Vec<u8>, place: Place, last: Option<u64> },
     View { bytes: Vec<u8>, place: Place },
@@ -33,6 +34,14 @@ pub enum Answer {
     NoMore,
     View(u64, u64),
     Value(i128),
+    /// A VarUInt, with the bytes that it takes.
+    Whole {
+        value: u64,
+        length: u64,
+        minimal: bool,
+    },
+    /// A VarUInt of which so many bytes are missing.
+    Cut(u64),
     Written(Vec<u8>, Vec<u32>),
     Printed(String),
     Refused(Refused),
@@ -56,6 +65,10 @@ impl Answers for Independent {
         }
         Some(match question {
             Question::Mask { modes, bytes } => Answer::Mask(mask::mask(*modes, bytes)),
+            Question::VarUInt { bytes } => match number::read_varuint(bytes) {
+                Ok(number::VarUInt { value, taken, minimal }) => Answer::Whole { value, length: taken as u64, minimal },
+                Err(missing) => Answer::Cut(missing as u64),
+            },
             Question::Write { list, output_length, work_length } => {
                 writing::by_independent(list, *output_length, *work_length)
             }
@@ -106,6 +119,7 @@ impl Question {
         };
         match words.as_slice() {
             ["mask", modes, bytes] => Ok(Question::Mask { modes: number(modes)?, bytes: bytes_of(bytes)? }),
+            ["varuint", bytes] => Ok(Question::VarUInt { bytes: bytes_of(bytes)? }),
             ["top", bytes] => Ok(Question::Top { bytes: bytes_of(bytes)? }),
             ["step", bytes, kind, start, end, depth, last] => Ok(Question::Step {
                 bytes: bytes_of(bytes)?,
@@ -141,7 +155,9 @@ impl Question {
     /// A question of the reading calls: the payload, and what is asked of it.
     pub fn reading(&self) -> Option<(&[u8], Reading<'_>)> {
         match self {
-            Question::Mask { .. } | Question::Write { .. } | Question::Program { .. } => None,
+            Question::Mask { .. } | Question::VarUInt { .. } | Question::Write { .. } | Question::Program { .. } => {
+                None
+            }
             Question::Top { bytes } => Some((bytes, Reading::Top)),
             Question::Step { bytes, place, last } => Some((bytes, Reading::Step(*place, *last))),
             Question::View { bytes, place } => Some((bytes, Reading::View(*place))),
@@ -157,6 +173,7 @@ impl Question {
     pub fn kind(&self) -> &'static str {
         match self {
             Question::Mask { .. } => "mask",
+            Question::VarUInt { .. } => "varuint",
             Question::Top { .. } => "top",
             Question::Step { .. } => "step",
             Question::View { .. } => "view",
@@ -180,7 +197,7 @@ impl std::fmt::Display for Question {
         let kind = self.kind();
         match self {
             Question::Mask { modes, bytes } => write!(f, "{kind} {modes} {}", hexadecimal(bytes)),
-            Question::Top { bytes } => write!(f, "{kind} {}", hexadecimal(bytes)),
+            Question::VarUInt { bytes } | Question::Top { bytes } => write!(f, "{kind} {}", hexadecimal(bytes)),
             Question::Step { bytes, place, last } => {
                 let last = last.map_or("-".to_string(), |last| last.to_string());
                 write!(f, "{kind} {} {} {last}", hexadecimal(bytes), place_text(place))
@@ -212,6 +229,10 @@ impl std::fmt::Display for Answer {
             Answer::NoMore => f.write_str("no more"),
             Answer::View(start, end) => write!(f, "view {start} {end}"),
             Answer::Value(value) => write!(f, "value {value}"),
+            Answer::Whole { value, length, minimal } => {
+                write!(f, "whole {value} {length} {}", if *minimal { "minimal" } else { "long" })
+            }
+            Answer::Cut(missing) => write!(f, "cut {missing}"),
             Answer::Written(bytes, work) => {
                 let numbers: Vec<String> = work.iter().map(u32::to_string).collect();
                 let numbers = if numbers.is_empty() { "-".to_string() } else { numbers.join(",") };

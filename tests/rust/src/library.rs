@@ -40,7 +40,8 @@ foreign!(has_validate_with, foreign_validate_with,
     /// The mask, with a table of numbers lent, which are zeros afterwards.
     fn ajuqvane_validate_with(modes: u32, payload: *const u8, length: usize, table: *mut u64, numbers: usize) -> u32);
 foreign!(has_varuint, foreign_varuint,
-    /// 0: whole, with value, bytes taken and whether minimal; 1: cut; `TOO_FEW`: fewer than 3 answer numbers lent.
+    /// 0: whole, with value, bytes taken and whether minimal; 1: cut, with how many bytes are missing; `TOO_FEW`: fewer than 3
+    /// answer numbers lent.
     fn ajuqvane_varuint(part: *const u8, length: usize, answer: *mut u64, count: usize) -> u32);
 foreign!(has_is_text, foreign_is_text,
     /// 1 or 0.
@@ -151,11 +152,24 @@ pub fn validate_with(modes: u32, payload: &[u8], table: &mut [u64]) -> Option<u3
     unsafe { foreign_validate_with::call(modes, payload.as_ptr(), payload.len(), table.as_mut_ptr(), table.len()) }
 }
 
-/// The VarUInt at the front of a part: 0, 1 or `TOO_FEW`, and in the answer its value, the bytes taken, and 1 if it is minimal.
+/// The VarUInt at the front of a part: 0, and in the answer its value, the bytes taken, and 1 if it is minimal; 1, and how many
+/// bytes are missing; or `TOO_FEW`.
 #[inline(always)]
 pub fn varuint(part: &[u8], answer: &mut [u64]) -> Option<u32> {
     // Safety: each pointer and length are those of a slice, and the one written to is lent mutably.
     unsafe { foreign_varuint::call(part.as_ptr(), part.len(), answer.as_mut_ptr(), answer.len()) }
+}
+
+/// The same as the answer of a case file. Numbers behind those of the answer may not be touched.
+fn varuint_answer(part: &[u8]) -> Option<Answer> {
+    const BEFORE: u64 = 0xAAAA_BBBB_CCCC_DDDD;
+    let mut answer = [BEFORE; 5];
+    let code = varuint(part, &mut answer)?;
+    Some(match (code, answer) {
+        (0, [value, length, minimal @ 0..=1, BEFORE, BEFORE]) => Answer::Whole { value, length, minimal: minimal == 1 },
+        (1, [missing, BEFORE, BEFORE, BEFORE, BEFORE]) => Answer::Cut(missing),
+        _ => Answer::Broken(format!("{code} {answer:?}")),
+    })
 }
 
 /// Whether a part is UTF-8: 1 or 0.
@@ -324,6 +338,7 @@ impl Answers for Library {
     fn answer(&self, question: &Question) -> Option<Answer> {
         match question {
             Question::Mask { modes, bytes } => validate(*modes, bytes).map(Answer::Mask),
+            Question::VarUInt { bytes } => varuint_answer(bytes),
             Question::Write { list, output_length, work_length } => {
                 writing::by_library(list, *output_length, *work_length)
             }

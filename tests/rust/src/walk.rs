@@ -52,8 +52,8 @@ fn shown(
     let Some(part) = payload.get(start..end) else { return broken("a view outside the payload") };
     // What a VarUInt at the front of the view says, and what follows it.
     let split = || match read_varuint(part) {
-        Some(number) => Ok((number.value, &part[number.taken..])),
-        None => broken("no VarUInt"),
+        Ok(number) => Ok((number.value, &part[number.taken..])),
+        Err(_) => broken("no VarUInt"),
     };
     Ok(match place.kind {
         NULL => Tree::Null,

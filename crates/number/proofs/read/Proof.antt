@@ -16,6 +16,8 @@ read-spec =
     (λ c κs. search needs)
     (λ c κs. search needs)
     (λ c. read-one _ _ (omega arith) (sym (c .before .if2 .taken) ∙ c .before .before .following .ensures) (c .wide .ensures))
+    (λ c. search needs)
+    (λ c. search needs)
     (λ c. read-cut _ _ (omega arith) (c .before .before .following .ensures) (c .if3 .taken))
     (λ c κs. search needs)
     (λ c κs.

@@ -17,18 +17,20 @@ varuint-spec =
     (λ c. search needs)
     (λ c. search needs)
     (λ c. search needs)
+    (λ c. search needs)
     (λ c. simp length-set (omega arith))
     (λ c κs. search needs)
     (λ c. search needs)
     (λ c. search needs)
+    (λ c. search needs)
     (λ c.
-    let a = c .before .before .before .before .args in
-    reply 3 varuintReply (a .held .now) (a .answer) (c .before .before .if1 .left) _
-    (c .enum-told .given .1) _ refl _ refl)
+    let a = c .before .before .before .before .before .args in
+    reply 3 varuintReply (a .held .now) (a .answer) (c .before .before .before .if1 .left) _
+    (c .before .answer .given .1) _ refl _ refl)
     (λ c. search needs)
     (λ c.
     let a = c .before .before .before .before .before .before .args in
     reply 3 varuintReply (a .held .now) (a .answer) (c .before .before .before .before .if1 .left) _
-    (c .before .before .answer .given .1) _ refl _
-    (ap (λ x. sets (a .held .now) 0 ((c .before .before .answer .given .0 .0) ∷ (c .before .before .answer .given .0 .1 .0) ∷ x ∷ []))
+    (c .before .before .answer2 .given .1) _ refl _
+    (ap (λ x. sets (a .held .now) 0 ((c .before .before .answer2 .given .0 .0) ∷ (c .before .before .answer2 .given .0 .1 .0) ∷ x ∷ []))
     (c .number-of .ensures))))

@@ -140,11 +140,8 @@ impl Requests {
         let end = random.between(start, payload.len().min(start + 300));
         let part = payload.get(start..end).unwrap_or(&[]);
         let count = if random.below(4) == 0 { random.below(3) } else { random.between(3, 5) };
-        let answer = match number::read_varuint(part) {
-            _ if count < 3 => given(TOO_FEW, &[], count),
-            Some(number) => given(0, &[number.value, number.taken as u64, u64::from(number.minimal)], count),
-            None => given(1, &[], count),
-        };
+        let (code, values) = number::varuint_in_numbers(part);
+        let answer = if count < 3 { given(TOO_FEW, &[], count) } else { given(code, &values, count) };
         self.ask(random, Call::VarUInt, Arguments { count, ..Arguments::default() }, part, answer);
         self.ask(random, Call::IsText, with(0), part, given(text::is_text(part).into(), &[], 0));
         // The part and itself, or with a bit changed, or cut.

@@ -210,14 +210,14 @@ fn compare_leaves(random: &mut Random, payload: &[u8], tally: &mut Tally) {
     let mut hold = |call: &'static str, same: bool, given: String| {
         tally.hold(call, same, || format!("{call} {} {}\tlibrary: {given}", hexadecimal(a), hexadecimal(b)));
     };
-    let before = [1, 2, 3];
+    // No count of missing bytes.
+    let before = [11, 12, 13];
     let mut answer = before;
     if let Some(given) = library::varuint(a, &mut answer) {
-        let expected = match number::read_varuint(a) {
-            Some(number) => (0, [number.value, number.taken as u64, u64::from(number.minimal)]),
-            None => (1, before),
-        };
-        hold("varuint", (given, answer) == expected, format!("{given} {answer:?}"));
+        let (code, values) = number::varuint_in_numbers(a);
+        let mut expected = before;
+        expected[..values.len()].copy_from_slice(&values);
+        hold("varuint", (given, answer) == (code, expected), format!("{given} {answer:?}"));
     }
     if let Some(given) = library::is_text(a) {
         hold("is_text", given == u32::from(text::is_text(a)), given.to_string());

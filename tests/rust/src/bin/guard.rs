@@ -238,13 +238,13 @@ fn calls(tally: &mut Tally, payload: &[u8], other_page: &mut Guarded, answer_pag
         }
     }
     let answer = answer_page.part::<u64>(3, flush);
-    answer.fill(7);
+    // No count of missing bytes.
+    answer.fill(77);
     if let Some(given) = library::varuint(payload, answer) {
-        let expected = match number::read_varuint(payload) {
-            Some(number) => (0, [number.value, number.taken as u64, u64::from(number.minimal)]),
-            None => (1, [7; 3]),
-        };
-        tally.hold("varuint", given == expected.0 && *answer == expected.1, payload);
+        let (code, values) = number::varuint_in_numbers(payload);
+        let mut expected = [77; 3];
+        expected[..values.len()].copy_from_slice(&values);
+        tally.hold("varuint", given == code && *answer == expected, payload);
     }
 }
 

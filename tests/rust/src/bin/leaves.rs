@@ -49,10 +49,12 @@ struct Independent;
 
 impl Leaves for Independent {
     fn varuint(part: &[u8], answer: &mut [u64]) -> Option<u32> {
-        let [value, taken, minimal, ..] = answer else { return Some(library::TOO_FEW) };
-        let Some(number) = number::read_varuint(part) else { return Some(1) };
-        (*value, *taken, *minimal) = (number.value, number.taken as u64, u64::from(number.minimal));
-        Some(0)
+        if answer.len() < 3 {
+            return Some(library::TOO_FEW);
+        }
+        let (code, values) = number::varuint_in_numbers(part);
+        answer[..values.len()].copy_from_slice(&values);
+        Some(code)
     }
     fn is_text(part: &[u8]) -> Option<u32> {
         Some(u32::from(text::is_text(part)))
@@ -134,6 +136,7 @@ fn all<L: Leaves>(whole: bool) -> Vec<Family> {
     vec![
         varuint::<L>(),
         varuint_examples::<L>(),
+        varuint_received::<L>(),
         sequences::<L>(),
         long_texts::<L>(),
         equality::<L>(),
@@ -142,8 +145,8 @@ fn all<L: Leaves>(whole: bool) -> Vec<Family> {
     ]
 }
 
-/// The reference: the bytes as one large number, less the leading ones.
-fn varuint_reference(part: &[u8]) -> Option<[u64; 3]> {
+/// The reference: the bytes as one large number, less the leading ones. None if it is cut off.
+fn varuint_whole(part: &[u8]) -> Option<[u64; 3]> {
     let first = *part.first()?;
     let taken = (0..8).take_while(|bit| first & (0x80 >> bit) != 0).count() + 1;
     if part.len() < taken {
@@ -158,6 +161,14 @@ fn varuint_reference(part: &[u8]) -> Option<[u64; 3]> {
     Some([value, taken as u64, u64::from(minimal)])
 }
 
+/// The whole number, or how many bytes are missing: the fewest zeros that make it whole.
+fn varuint_reference(part: &[u8]) -> Result<[u64; 3], u64> {
+    varuint_whole(part).ok_or_else(|| {
+        let joined = |missing: &usize| varuint_whole(&[part, &vec![0; *missing]].concat()).is_some();
+        (1..=9).find(joined).unwrap_or(0) as u64
+    })
+}
+
 const BEFORE: [u64; 5] = [0xAAAA, 0xBBBB, 0xCCCC, 0xDDDD, 0xEEEE];
 
 /// One part, with 0 to 5 answer numbers lent.
@@ -169,8 +180,11 @@ fn hold_varuint<L: Leaves>(family: &mut Family, part: &[u8], lent: usize) {
     let same = match (lent, reference) {
         // Too few numbers, whatever the part holds.
         (0..=2, _) => given == library::TOO_FEW && answer == expected,
-        (_, None) => given == 1 && answer == expected,
-        (_, Some(three)) => {
+        (_, Err(missing)) => {
+            expected[0] = missing;
+            given == 1 && answer == expected
+        }
+        (_, Ok(three)) => {
             expected[..3].copy_from_slice(&three);
             given == 0 && answer == expected
         }
@@ -245,6 +259,39 @@ fn varuint_examples<L: Leaves>() -> Family {
             let same = given == 0 && answer == [value, bytes.len() as u64, 1];
             family.hold(same, || format!("{}: {given} {answer:?}", hexadecimal(bytes)));
         }
+    }
+    family
+}
+
+/// Document 02, M-107: "Our receiver must know how many bytes to wait for." One that holds nothing at first and waits each time
+/// for as many bytes as it is told, whichever they are: one byte fewer never makes the value whole, it waits at most twice, and
+/// then it holds the value and no byte behind it.
+fn varuint_received<L: Leaves>() -> Family {
+    let mut family = Family::new("VarUInt: received by waiting for what is missing");
+    let mut random = Random::new(SEED, 5);
+    for index in 0..1_000_000_u32 {
+        let mut coming = random.bytes(9);
+        // Every first byte, 3,900 times and more.
+        coming[0] = index as u8;
+        let (mut held, mut waits) = (0, 0);
+        let mut answer = BEFORE;
+        let Some(mut given) = L::varuint(&coming[..held], &mut answer) else { break };
+        let mut sound = true;
+        while sound && given == 1 {
+            let enough = held + answer[0] as usize;
+            waits += 1;
+            sound = held < enough && enough <= 9 && waits <= 2;
+            if sound {
+                let mut fewer = BEFORE;
+                sound = L::varuint(&coming[..enough - 1], &mut fewer) == Some(1) && fewer[0] == 1;
+                held = enough;
+                answer = BEFORE;
+                given = L::varuint(&coming[..held], &mut answer).unwrap_or(2);
+            }
+        }
+        sound &=
+            given == 0 && answer[1] == held as u64 && varuint_whole(&coming) == Some([answer[0], answer[1], answer[2]]);
+        family.hold(sound, || format!("{}: {held} held after {waits} waits, {given} {answer:?}", hexadecimal(&coming)));
     }
     family
 }

@@ -11,17 +11,27 @@ pub struct VarUInt {
 }
 
 /// "A VarUInt takes one byte more than the number of leading one bits in the first byte, so 1 to 9. The value is the rest
-/// of the first byte followed by the others, big-endian." None if the bytes end before it does.
-pub fn read_varuint(part: &[u8]) -> Option<VarUInt> {
-    let first = *part.first()?;
+/// of the first byte followed by the others, big-endian." If the bytes end before it does, document 02, M-107: "how many of
+/// the bytes its first byte calls for are still missing (one for an empty rest)".
+pub fn read_varuint(part: &[u8]) -> Result<VarUInt, usize> {
+    let Some(first) = part.first() else { return Err(1) };
     let others = first.leading_ones() as usize;
     let taken = others + 1;
+    let Some(rest) = part.get(1..taken) else { return Err(taken - part.len()) };
     // The bits after the leading ones; the zero that ends them adds nothing.
-    let mut value = if others >= 8 { 0 } else { u64::from(first) & ((1 << (8 - others)) - 1) };
-    for byte in part.get(1..taken)? {
+    let mut value = if others >= 8 { 0 } else { u64::from(*first) & ((1 << (8 - others)) - 1) };
+    for byte in rest {
         value = value << 8 | u64::from(*byte);
     }
-    Some(VarUInt { value, taken, minimal: taken == minimal_length(value) })
+    Ok(VarUInt { value, taken, minimal: taken == minimal_length(value) })
+}
+
+/// What the library's call has to answer, and the numbers at the front of those that it is lent, if they are three or more.
+pub fn varuint_in_numbers(part: &[u8]) -> (u32, Vec<u64>) {
+    match read_varuint(part) {
+        Ok(number) => (0, vec![number.value, number.taken as u64, u64::from(number.minimal)]),
+        Err(missing) => (1, vec![missing as u64]),
+    }
 }
 
 /// "The bound for n bytes, n from 1 to 8, is 2^(7n) - 1; nine bytes reach 2^64 - 1."

@@ -119,7 +119,7 @@ pub struct Field {
 /// The VarUInt at a byte, within an end: its value, and where it ends. Cut there, it is fault 1.
 fn varuint(bytes: &[u8], at: usize, end: usize, flaws: &mut Flaws) -> Result<(u64, usize), Stop> {
     let part = bytes.get(at..end).ok_or(Stop::Bounds)?;
-    let number = read_varuint(part).ok_or(Stop::Bounds)?;
+    let number = read_varuint(part).map_err(|_| Stop::Bounds)?;
     flaws.note(FORMAT, NOT_MINIMAL, || !number.minimal);
     Ok((number.value, at + number.taken))
 }

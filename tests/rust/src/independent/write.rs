@@ -131,7 +131,7 @@ struct Frame<'a> {
 
 impl<'a> Frame<'a> {
     fn number(&mut self) -> Result<u64, Refusal> {
-        match self.list.get(self.at..).and_then(read_varuint) {
+        match self.list.get(self.at..).and_then(|rest| read_varuint(rest).ok()) {
             Some(number) if number.minimal => {
                 self.at += number.taken;
                 Ok(number.value)
