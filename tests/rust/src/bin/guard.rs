@@ -1,7 +1,8 @@
 //! guard: runs the library's calls on payloads of every length to 300 that stand flush against the end, and then against
 //! the start, of a readable page between two that cannot be touched, so that a byte read outside the payload ends the
-//! program; and the writer on lists of every such length, with the output, the work numbers and the answer's number between
-//! such pages too. The answers are held to the independent implementation's too. Last `guarded N calls, differences M`.
+//! program; the call on VarUInts on every first byte, cut everywhere; and the writer on lists of every such length, with the
+//! output, the work numbers and the answer's number between such pages too. The answers are held to the independent
+//! implementation's too. Last `guarded N calls, differences M`.
 
 use std::ffi::{c_int, c_long, c_void};
 use std::process::ExitCode;
@@ -172,6 +173,24 @@ fn main() -> ExitCode {
             }
         }
     }
+    // VarUInts of every first byte, cut everywhere, whole and with a byte behind them.
+    for first in 0..=255 {
+        for length in 0..=10 {
+            CURRENT.store((length as u64) << 32 | u64::from(first), Ordering::Relaxed);
+            let mut part = Random::new(SEED + 3, (length as u64) << 32 | u64::from(first)).bytes(length);
+            if let Some(byte) = part.first_mut() {
+                *byte = first;
+            }
+            for flush in [Flush::End, Flush::Start] {
+                page.part(length, flush).copy_from_slice(&part);
+                page.protect(PROT_READ);
+                for lent in 0..=5 {
+                    varuint_call(&mut tally, page.part(length, flush), lent, &mut answer_page, flush);
+                }
+                page.protect(PROT_READ | PROT_WRITE);
+            }
+        }
+    }
     if library::HAS_WRITE {
         let mut pages = WriterPages { list: page, output: other_page, work: Guarded::new(), answer: answer_page };
         for length in 0..=LONGEST {
@@ -237,14 +256,20 @@ fn calls(tally: &mut Tally, payload: &[u8], other_page: &mut Guarded, answer_pag
             tally.hold("are_equal to another", given == 0, payload);
         }
     }
-    let answer = answer_page.part::<u64>(3, flush);
+    varuint_call(tally, payload, 3, answer_page, flush);
+}
+
+/// The call on VarUInts, with so many numbers lent.
+fn varuint_call(tally: &mut Tally, part: &[u8], lent: usize, answer_page: &mut Guarded, flush: Flush) {
     // No count of missing bytes.
-    answer.fill(77);
-    if let Some(given) = library::varuint(payload, answer) {
-        let (code, values) = number::varuint_in_numbers(payload);
-        let mut expected = [77; 3];
+    const BEFORE: u64 = 77;
+    let answer = answer_page.part::<u64>(lent, flush);
+    answer.fill(BEFORE);
+    if let Some(given) = library::varuint(part, answer) {
+        let (code, values) = if lent < 3 { (library::TOO_FEW, vec![]) } else { number::varuint_in_numbers(part) };
+        let mut expected = vec![BEFORE; lent];
         expected[..values.len()].copy_from_slice(&values);
-        tally.hold("varuint", given == code && *answer == expected, payload);
+        tally.hold("varuint", given == code && *answer == expected, part);
     }
 }
 
