@@ -45,7 +45,7 @@ static const struct {
     const char *words;
 } faults[] = {
     {1, "bytes end early, or a size does not fit"},
-    {2, "an unknown kind, or flags that do not belong in their place"},
+    {2, "an unknown kind, or other flags than its place asks"},
     {4, "a field at depth 33"},
     {8, "more than 65536 bytes"},
     {2048, "a uniform container that cannot be: empty, or an array of nulls or truth values"},

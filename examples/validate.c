@@ -20,7 +20,7 @@ static const struct {
     const char *words;
 } faults[] = {
     {1, "bytes end early, a size does not fit, an item is missing, or bytes are left in a container"},
-    {2, "an unknown kind, or flags that do not belong in their place"},
+    {2, "an unknown kind, or other flags than its place asks"},
     {4, "a field at depth 33"},
     {8, "more than 65536 bytes"},
     {16, "two fields of one object have the same name"},

@@ -40,7 +40,8 @@ uint64_t ajuqvane_widen(uint32_t bits);
  * 0: nothing of what is asked.
  * Otherwise the first of these that is met in the order of the bytes, alone (8 before all others):
  *   1 bytes end early, a size does not fit, a counted item is missing, or bytes are left in a container
- *   2 an unknown ID, or other flag bits than the place asks
+ *   2 an unknown ID, or other flag bits than the place asks: C0 hex for a field of an object, 40 for an item of an array, 80 for the byte that
+ *     all fields of a uniform object share; none for the byte that all items of a uniform array share, and for the top field
  *   4 a field at depth 33
  *   8 more than 65536 bytes
  *   2048 a uniform object without a field, a uniform array without an item, or one of nulls or truth values
@@ -103,7 +104,8 @@ uint32_t ajuqvane_step(const uint8_t *payload, size_t length, uint8_t kind, size
                        uint32_t some, size_t last, uint64_t *answer, size_t count);
 
 /* A place's view: what the field holds, after its size if it has one. A string's is its text, an integer's its VarUInt; an
- * array's begins with its count, a custom's with its id or with its name's length.
+ * array's begins with its count, a uniform object's with the byte that its fields share (an ID and 80 hex), a custom's with its id or with its
+ * name's length.
  * 0: the view stands in the payload from answer[0] to answer[1].
  * 1, 2, 4, 8, 2048, 12. Asks for 2 numbers. */
 uint32_t ajuqvane_view(const uint8_t *payload, size_t length, uint8_t kind, size_t start, size_t end, uint32_t depth,

@@ -33,9 +33,9 @@ impl<'a> Reader<'a> {
         Ok((value, minimal))
     }
 
-    /// A shared byte.
-    pub fn shared(&mut self) -> Result<u8, u32> {
-        let id = self.byte()?;
+    /// The ID in a shared byte that has these flags.
+    pub fn shared(&mut self, flags: u8) -> Result<u8, u32> {
+        let id = self.byte()? ^ flags;
         if is_known(id) {
             Ok(id)
         } else {

@@ -41,7 +41,7 @@ fn payload_of<'a>(reader: &mut Reader<'a>, kind: u8) -> Result<Opened<'a>, u32> 
     match kind {
         0x02 => Ok(Opened::Container(part, Form::Typed { flags: 0xC0, named: true })),
         0x03 => {
-            let id = part.shared()?;
+            let id = part.shared(0x80)?;
             if part.rest.is_empty() {
                 return Err(2048);
             }
@@ -53,7 +53,7 @@ fn payload_of<'a>(reader: &mut Reader<'a>, kind: u8) -> Result<Opened<'a>, u32> 
         }
         0x05 => {
             let (count, _) = part.number()?;
-            let id = part.shared()?;
+            let id = part.shared(0)?;
             if count == 0 || is_bare(id) {
                 return Err(2048);
             }

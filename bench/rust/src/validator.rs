@@ -83,7 +83,7 @@ impl Validator {
         match id {
             0x02 => self.object(part, Form::Typed { flags: 0xC0, named: true }, depth),
             0x03 => {
-                let id = part.shared()?;
+                let id = part.shared(0x80)?;
                 if part.rest.is_empty() {
                     return Err(2048);
                 }
@@ -95,7 +95,7 @@ impl Validator {
             }
             0x05 => {
                 let count = self.number(&mut part)?;
-                let id = part.shared()?;
+                let id = part.shared(0)?;
                 if count == 0 || is_bare(id) {
                     return Err(2048);
                 }

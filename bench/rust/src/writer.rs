@@ -263,7 +263,7 @@ impl<'a> Writer<'a, '_> {
         let flags = match container.shared {
             None => Some(if named { 0xC0 } else { 0x40 }),
             Some(id) => {
-                self.put(&[id]);
+                self.put(&[if named { id | 0x80 } else { id }]);
                 None
             }
         };

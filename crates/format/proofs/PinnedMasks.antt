@@ -1,5 +1,6 @@
 -- Every number of the mask, the mode that each fault is asked by, and each order that document 01 states ("The mask"), by payloads whose masks are computed.
--- The answers are 01's: they were written from its tables, and exchanging two numbers, two modes or two orders in the definitions is refused here.
+-- The answers are 01's, and for the byte that fields share 02's (M-102). They were written from the tables, and exchanging two numbers, two modes or two
+-- orders in the definitions is refused here.
 use Prim.Native.Nat.{ℕ, zero, suc, _+_}
 use mathlib.Core.Path.{_≡_, refl}
 use mathlib.Core.List.{List, [], _∷_, _++_, map}
@@ -65,7 +66,7 @@ under n k p = 0x04 ∷ withSize (0x01 ∷ item n k p)
 abbrev kinds : List Row
 kinds =
     sound (of 1 0x01) ∷ sound (of 1 0x0c) ∷ sound (of 1 0x0d)
-    ∷ sound (of 2 0x0200) ∷ sound (of 5 0x0303010161) ∷ sound (of 3 0x040100) ∷ sound (of 5 0x0503010805)
+    ∷ sound (of 2 0x0200) ∷ sound (of 5 0x0303810161) ∷ sound (of 3 0x040100) ∷ sound (of 5 0x0503010805)
     ∷ sound (of 3 0x0601c3) ∷ sound (of 3 0x070161) ∷ sound (of 2 0x0805) ∷ sound (of 2 0x0905)
     ∷ sound (of 5 0x0a3f800000) ∷ sound (of 9 0x0b3690000000000000)
     ∷ sound (0x0e ∷ zeros 20) ∷ sound (0x0f ∷ zeros 20) ∷ sound (0x10 ∷ zeros 20) ∷ sound (0x11 ∷ zeros 16)
@@ -91,7 +92,7 @@ stopping =
     -- 4: at depth 32 a field may stand, at depth 33 none
     ∷ format 1024 (under 30 0x01 []) ∷ stops 4 (under 31 0x01 [])
     -- 2048: 03 with no field; 05 with count 0, also where that is written long, or of 01, 0C, 0D
-    ∷ stops 2048 (of 3 0x030108) ∷ stops 2048 (of 4 0x05020008) ∷ stops 2048 (of 5 0x0503800008)
+    ∷ stops 2048 (of 3 0x030188) ∷ stops 2048 (of 4 0x05020008) ∷ stops 2048 (of 5 0x0503800008)
     ∷ stops 2048 (of 4 0x05020101) ∷ stops 2048 (of 4 0x0502010c) ∷ stops 2048 (of 4 0x0502010d)
     -- at a field: depth, before its bytes are looked for and before its type
     ∷ stops 4 (under 30 0x04 (of 2 0x0101)) ∷ stops 4 (under 30 0x05 (of 3 0x020108)) ∷ stops 4 (under 31 0x15 []) ∷ stops 4 (under 30 0x02 (of 2 0x0115))
@@ -103,13 +104,24 @@ stopping =
     ∷ stops 1 (of 7 0x0205c305610115)
     -- the size before what stands in it: items, a shared byte, a count
     ∷ stops 1 (of 4 0x04030155) ∷ stops 2 (of 4 0x04020155)
-    ∷ stops 1 (of 3 0x030215) ∷ stops 1 (of 3 0x030208) ∷ stops 1 (of 4 0x05030115) ∷ stops 1 (of 4 0x05030008)
+    ∷ stops 1 (of 3 0x030208) ∷ stops 1 (of 3 0x030295) ∷ stops 1 (of 3 0x030288) ∷ stops 1 (of 4 0x05030115) ∷ stops 1 (of 4 0x05030008)
     -- the shared byte: missing 1, then unknown 2, then 2048
     ∷ stops 1 (of 2 0x0300) ∷ stops 1 (of 3 0x050100) ∷ stops 1 (of 4 0x05010008)
-    ∷ stops 2 (of 3 0x030115) ∷ stops 2 (of 3 0x030148) ∷ stops 2 (of 3 0x030188) ∷ stops 2 (of 3 0x0301c8)
-    ∷ stops 2 (of 4 0x05020015) ∷ stops 2 (of 4 0x05020048) ∷ stops 2 (of 4 0x05020115)
+    ∷ stops 2 (of 3 0x030108) ∷ stops 2 (of 3 0x030115) ∷ stops 2 (of 3 0x030148) ∷ stops 2 (of 3 0x0301a8) ∷ stops 2 (of 3 0x0301c8)
+    ∷ stops 2 (of 3 0x030180) ∷ stops 2 (of 3 0x030195)
+    ∷ stops 2 (of 4 0x05020015) ∷ stops 2 (of 4 0x05020028) ∷ stops 2 (of 4 0x05020048) ∷ stops 2 (of 4 0x05020088) ∷ stops 2 (of 4 0x050200c8)
+    ∷ stops 2 (of 4 0x0502014c) ∷ stops 2 (of 4 0x0502018c) ∷ stops 2 (of 4 0x050201c1) ∷ stops 2 (of 4 0x05020115)
+    -- a bad one with fields or items behind it; before a cut name, and before depth, which comes before the name
+    ∷ stops 2 (of 6 0x030408016105) ∷ stops 2 (of 5 0x0503018805) ∷ stops 2 (of 4 0x03020805)
+    ∷ stops 2 (under 30 0x03 (of 4 0x03080161)) ∷ stops 2 (under 30 0x05 (of 3 0x020115)) ∷ stops 4 (under 30 0x03 (of 3 0x028805))
+    -- a field that is cut is a field, so this is 1 and not 2048: in its name, in its payload
+    ∷ stops 1 (of 4 0x03028805) ∷ stops 1 (of 5 0x0303880161)
+    -- 05 in 03: its own byte is bare
+    ∷ stops 2 (of 9 0x030785016103018805) ∷ stops 1 (of 8 0x0306850161020108)
+    -- 03 in 03: 01's nested case as 01 spelled it; with its inner shared byte so, and with its outer one
+    ∷ stops 2 (of 14 0x030c0305696e6e6572040801780a) ∷ stops 2 (of 14 0x030c8305696e6e6572040801780a) ∷ stops 2 (of 14 0x030c0305696e6e6572048801780a)
     -- 2048 before bytes left, before a missing item, and before depth
-    ∷ stops 2048 (of 5 0x0503000800) ∷ stops 2048 (of 4 0x0502020c) ∷ stops 2048 (under 30 0x05 (of 3 0x02010c)) ∷ stops 2048 (under 30 0x03 (of 2 0x0108))
+    ∷ stops 2048 (of 5 0x0503000800) ∷ stops 2048 (of 4 0x0502020c) ∷ stops 2048 (under 30 0x05 (of 3 0x02010c)) ∷ stops 2048 (under 30 0x03 (of 2 0x0188))
     -- bytes left, whatever they would be
     ∷ stops 1 (of 4 0x04020055) ∷ stops 1 (of 5 0x0403014155)
     -- the first in document order: an unknown item before a missing one and the other way round, an inner before a later outer one
@@ -122,9 +134,9 @@ stopping =
 abbrev flaws : List Row
 flaws =
     -- 16: in 02 and in 03; names that differ in their last byte, and one that begins another
-    names 16 (of 9 0x0207c10161c8016105) ∷ names 16 (of 7 0x03050101610161) ∷ sound (of 7 0x03050101610162) ∷ sound (of 8 0x0306010161026161)
+    names 16 (of 9 0x0207c10161c8016105) ∷ names 16 (of 7 0x03058101610161) ∷ sound (of 7 0x03058101610162) ∷ sound (of 8 0x0306810161026161)
     -- two that are no neighbours; equal names of two objects
-    ∷ names 16 (of 9 0x030701016101620161) ∷ sound (of 12 0x050a02030301016103010161)
+    ∷ names 16 (of 9 0x030781016101620161) ∷ sound (of 12 0x050a02030381016103810161)
     -- 32; two empty names are equal
     ∷ names 32 (of 8 0x0206c100c8016105) ∷ names 48 (of 7 0x0205c100c80005)
     -- 64: an integer, a size, a count, a name's length, a custom's id and name's length
@@ -141,6 +153,9 @@ flaws =
     ∷ format 1024 (of 6 0x0204c8016105) ∷ format 1024 (of 5 0x0203c10161) ∷ format 1024 (of 5 0x0203cc0161) ∷ format 1024 (of 5 0x0403014805)
     ∷ format 1024 (of 7 0x04050248014802)
     ∷ sound (of 4 0x04020141) ∷ sound (of 4 0x0402014c) ∷ sound (of 4 0x0402014d) ∷ sound (of 7 0x04050248014900) ∷ sound (of 6 0x040402414805)
+    -- 01's nested case: plain; and uniform, as M-102 spells it. 05 in 03. An object of 0C
+    ∷ format 1024 (of 14 0x020cc205696e6e657204c801780a) ∷ sound (of 14 0x030c8305696e6e6572048801780a) ∷ sound (of 9 0x030785016103010805)
+    ∷ sound (of 5 0x03038c0161)
     -- 4096
     ∷ padding 4096 (of 3 0x080500)
     -- each once: two of one kind; several of one payload

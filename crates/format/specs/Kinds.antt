@@ -49,12 +49,12 @@ withId n (k ∷ ks) = cond (eqb n (id k)) (Is k) (withId n ks)
 unfoldable pub known : ℕ → Known
 known n = withId n kinds
 
--- what a type byte has above its ID
+-- what a type byte has above its ID; in the byte that fields share, by document 02, M-102
 abbrev pub flags : Mark → ℕ
 flags OfTop = 0x00
 flags OfField = 0xc0
 flags OfItem = 0x40
-flags SharedByFields = 0x00
+flags SharedByFields = 0x80
 flags SharedByItems = 0x00
 
 abbrev pub typeByte : Mark → Kind → ℕ

@@ -154,7 +154,7 @@ pub fn flags_of(mark: Mark) -> u8
         Mark::OfTop => 0,
         Mark::OfField => 0xc0,
         Mark::OfItem => 0x40,
-        Mark::SharedByFields => 0,
+        Mark::SharedByFields => 0x80,
         Mark::SharedByItems => 0,
     }
 }

@@ -1,6 +1,6 @@
 -- Every refusal's number and place, and each order of two, by write lists whose outcomes are computed; what a refusal and a success leave; and runs of the
--- program, of which the longest lists are in crates/demands/proofs/Lent.antt (document 01, "The write list"). The answers are 01's: exchanging two numbers or
--- two orders in the definitions is refused here.
+-- program, of which the longest lists are in crates/demands/proofs/Lent.antt (document 01, "The write list"). The answers are 01's, and
+-- for the byte that fields share 02's (M-102). Exchanging two numbers or two orders in the definitions is refused here.
 use Prim.Native.Nat.{ℕ, _+_}
 use mathlib.Core.Path.{_≡_, refl}
 use mathlib.Core.List.{List, [], _∷_, _++_, map}
@@ -55,8 +55,8 @@ each =
     -- 1: no field, or an open container; at the list's length
     refused 1 0 [] ∷ refused 1 1 (of 1 0x02) ∷ refused 1 2 (of 2 0x0401) ∷ refused 1 3 (of 3 0x040400)
     -- 2: a bad kind (03 and 05 too), a cut frame, a VarUInt that is not minimal, 09 with M of 2^63 or more; at the frame
-    ∷ refused 2 0 (of 1 0x15) ∷ refused 2 0 (of 1 0x03) ∷ refused 2 0 (of 1 0x05) ∷ refused 2 0 (of 1 0x48) ∷ refused 2 1 (of 2 0x0403)
-    ∷ refused 2 0 (of 1 0x08) ∷ refused 2 0 (of 3 0x070261) ∷ refused 2 1 (of 4 0x02080161) ∷ refused 2 1 (of 4 0x02080261)
+    ∷ refused 2 0 (of 1 0x15) ∷ refused 2 0 (of 1 0x03) ∷ refused 2 0 (of 1 0x05) ∷ refused 2 0 (of 1 0x48) ∷ refused 2 0 (of 1 0x88)
+    ∷ refused 2 1 (of 2 0x0403) ∷ refused 2 0 (of 1 0x08) ∷ refused 2 0 (of 3 0x070261) ∷ refused 2 1 (of 4 0x02080161) ∷ refused 2 1 (of 4 0x02080261)
     ∷ refused 2 0 (of 3 0x088005) ∷ refused 2 0 (of 3 0x068000) ∷ refused 2 0 (of 4 0x1e028005) ∷ refused 2 0 (of 5 0x1f03800161)
     ∷ refused 2 0 (of 2 0x1e00) ∷ refused 2 0 (of 3 0x1f0105) ∷ refused 2 0 (of 10 0x09ff8000000000000000)
     -- 3: an empty name
@@ -149,6 +149,25 @@ writes =
       output = times 12 0x09;
       work = 7 ∷ [];
       result = record { answer = Done 12; output = of 12 0x050a020a3f8000003f800000; work = 10 ∷ [] };
+    }
+    -- M-102: shared bytes of objects have 80 hex, of arrays none. 01's nested case; an array of two objects; an object of an array
+    ∷ record {
+      list = of 14 0x020205696e6e65720801780a0000;
+      output = times 15 0x09;
+      work = 7 ∷ 7 ∷ 7 ∷ [];
+      result = record { answer = Done 14; output = of 15 0x030c8305696e6e6572048801780a09; work = 12 ∷ 4 ∷ 0 ∷ [] };
+    }
+    ∷ record {
+      list = of 12 0x040201016100020101610000;
+      output = times 12 0x09;
+      work = 7 ∷ 7 ∷ 7 ∷ [];
+      result = record { answer = Done 12; output = of 12 0x050a02030381016103810161; work = 10 ∷ 3 ∷ 3 ∷ [] };
+    }
+    ∷ record {
+      list = of 8 0x0204016108050000;
+      output = times 9 0x09;
+      work = 7 ∷ 7 ∷ [];
+      result = record { answer = Done 9; output = of 9 0x030785016103010805; work = 7 ∷ 3 ∷ [] };
     }
     ∷ []
 

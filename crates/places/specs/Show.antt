@@ -108,7 +108,7 @@ pub record ShownLeaf (s : List ℕ) (k : Kind) (p : Place) (v : Leaf) : Type 0 w
 -- ---- the fields of a container
 
 -- all that stands before the contents, which have e bytes, by how the fields stand: the size of all that follows it, the count of the fields, whose kinds
--- are ks, and the kind that they share
+-- are ks, and the byte that they share
 abbrev pub Opens : Payload → List Kind → ℕ → List ℕ → Type 0
 Opens (leaf p) ks e b = ⊥
 Opens fields ks e b = Reads readVarUInt b e

@@ -23,7 +23,7 @@ use Rattle.places.specs.Stepping.{fieldsOf, Reached}
 use Rattle.places.specs.Contents.{contentsStart}
 use Rattle.places.specs.Siblings.{fieldIn}
 
--- what stands between a container's size and its contents, by how its fields stand: their count, and the kind that they share. ks are their kinds
+-- what stands between a container's size and its contents, by how its fields stand: their count, and the byte that they share. ks are their kinds
 abbrev pub Between : Payload → List Kind → List ℕ → Type 0
 Between (leaf p) ks b = ⊥
 Between fields ks b = b ≡ []

@@ -122,24 +122,63 @@ named = (
   ),
 )
 
+-- 03 with 10 under the name "x": the inner object of 01's nested case, as M-102 spells it
+pub shared : Spells anyForm 2 Top ([], (UniformObject, object ((0x78 ∷ [], (IntegerPositive, atom (integer (pos 10)))) ∷ [])))
+    (0x03 ∷ 0x04 ∷ 0x88 ∷ 0x01 ∷ 0x78 ∷ 0x0a ∷ [])
+shared = (
+  0x03 ∷ [],
+  0x04 ∷ 0x88 ∷ 0x01 ∷ 0x78 ∷ 0x0a ∷ [],
+  refl,
+  (refl, refl),
+  (
+    0x04 ∷ [],
+    0x88 ∷ 0x01 ∷ 0x78 ∷ 0x0a ∷ [],
+    refl,
+    (0, omega arith, omega arith, refl),
+    (
+      IntegerPositive,
+      0x01 ∷ 0x78 ∷ 0x0a ∷ [],
+      refl,
+      omega arith,
+      (
+        (0x78 ∷ [], (IntegerPositive, atom (integer (pos 10)))) ∷ [],
+        refl,
+        (
+          0x01 ∷ 0x78 ∷ 0x0a ∷ [],
+          [],
+          refl,
+          (
+            0x01 ∷ 0x78 ∷ [],
+            0x0a ∷ [],
+            refl,
+            (refl, (0x01 ∷ [], 0x78 ∷ [], refl, (0, omega arith, omega arith, refl), refl)),
+            (10, refl, (0, omega arith, omega arith, refl)),
+          ),
+          refl,
+        ),
+      ),
+    ),
+  ),
+)
+
 -- ---- halting, by hand
 
 -- no byte at all; 03 with a known shared byte and no field
 pub no-byte : Halts Early []
 no-byte = inr (omega arith, inl (inl (refl, refl)))
 
-pub no-field : Halts BadUniform (0x03 ∷ 0x01 ∷ 0x08 ∷ [])
+pub no-field : Halts BadUniform (0x03 ∷ 0x01 ∷ 0x88 ∷ [])
 no-field =
     inr (
       omega arith,
       inr (
         ([], UniformObject),
         0x03 ∷ [],
-        0x01 ∷ 0x08 ∷ [],
+        0x01 ∷ 0x88 ∷ [],
         refl,
         (refl, refl),
         inr
-            (0x01 ∷ [], 0x08 ∷ [], [], refl, (0, omega arith, omega arith, refl), inr (IntegerPositive, [], refl, inl (refl, refl))),
+            (0x01 ∷ [], 0x88 ∷ [], [], refl, (0, omega arith, omega arith, refl), inr (IntegerPositive, [], refl, inl (refl, refl))),
       ),
     )
 
@@ -177,12 +216,13 @@ halting =
     ∷ (Unknown, 0x42 ∷ 0x00 ∷ [])
     ∷ (Unknown, 0x02 ∷ 0x01 ∷ 0x08 ∷ [])
     ∷ (Unknown, 0x04 ∷ 0x02 ∷ 0x01 ∷ 0x08 ∷ [])
-    ∷ (Unknown, 0x03 ∷ 0x01 ∷ 0x15 ∷ [])
+    ∷ (Unknown, 0x03 ∷ 0x01 ∷ 0x95 ∷ [])
+    ∷ (Unknown, 0x03 ∷ 0x01 ∷ 0x08 ∷ [])
     ∷ (Unknown, 0x05 ∷ 0x02 ∷ 0x00 ∷ 0x48 ∷ [])
     -- 4: an item of the array at depth 32, before its bytes are looked for
     ∷ (TooDeep, arrays 1 31)
     -- 2048: 03 with no field; 05 with count 0, before bytes left; 05 with items of 0C
-    ∷ (BadUniform, 0x03 ∷ 0x01 ∷ 0x08 ∷ [])
+    ∷ (BadUniform, 0x03 ∷ 0x01 ∷ 0x88 ∷ [])
     ∷ (BadUniform, 0x05 ∷ 0x03 ∷ 0x00 ∷ 0x08 ∷ 0x00 ∷ [])
     ∷ (BadUniform, 0x05 ∷ 0x02 ∷ 0x02 ∷ 0x0c ∷ [])
     ∷ []

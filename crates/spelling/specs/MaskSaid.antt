@@ -1,4 +1,4 @@
--- What document 01 says of the mask, whole ("The mask"): m gives the payload's mask for each mode set. The reader is no part of this.
+-- What document 01, as 02 leaves it, says of the mask, whole ("The mask"): m gives the payload's mask for each mode set. The reader is no part of this.
 use Prim.Native.Nat.{ℕ, _+_, _≤_}
 use mathlib.Core.Path.{_≡_}
 use mathlib.Core.Logic.{_⊎_}

@@ -1,4 +1,5 @@
-// Runs the payloads that document 01 lists ("Payloads beside their masks"), in its order. The stored output is written from the document.
+// Runs the payloads that document 01 lists ("Payloads beside their masks"), in its order. Of the nested case, document 02 has another spelling (M-102): it is
+// run first, and then that of 01, which is refused. The stored output is written from the documents.
 use libc::STDOUT_FILENO;
 
 const NONE: u32 = 0;
@@ -43,6 +44,7 @@ fn containers() {
     run(STRICT, b"\x02\x17\xc7\x04name\x05Alice\xc8\x03age\x1e");
     run(STRICT, b"\x02\x0c\xc2\x05inner\x04\xc8\x01x\x0a");
     run(NONE, b"\x02\x0c\xc2\x05inner\x04\xc8\x01x\x0a");
+    run(STRICT, b"\x03\x0c\x83\x05inner\x04\x88\x01x\x0a");
     run(STRICT, b"\x03\x0c\x03\x05inner\x04\x08\x01x\x0a");
     run(STRICT, b"\x04\x03\x02\x4c\x4c");
     run(STRICT, b"\x05\x02\x02\x0c");

@@ -108,7 +108,7 @@ impl Validator<'_, '_> {
         match id {
             0x02 => self.object(0, at, end, depth)?,
             0x03 => {
-                let id = self.shared(&mut at, end)?;
+                let id = self.shared(&mut at, end, 0x80)?;
                 if at == end {
                     return Err(UNIFORM);
                 }
@@ -120,7 +120,7 @@ impl Validator<'_, '_> {
             }
             0x05 => {
                 let count = self.number(&mut at, end)?;
-                let id = self.shared(&mut at, end)?;
+                let id = self.shared(&mut at, end, 0)?;
                 if count == 0 || is_bare(id) {
                     return Err(UNIFORM);
                 }
@@ -137,8 +137,9 @@ impl Validator<'_, '_> {
         Ok(end)
     }
 
-    fn shared(&mut self, at: &mut usize, end: usize) -> Result<u8, u32> {
-        let id = *self.payload[*at..end].first().ok_or(CUT)?;
+    /// The ID in a shared byte that has these flags.
+    fn shared(&mut self, at: &mut usize, end: usize, flags: u8) -> Result<u8, u32> {
+        let id = self.payload[*at..end].first().ok_or(CUT)? ^ flags;
         *at += 1;
         if is_known(id) {
             Ok(id)

@@ -310,7 +310,7 @@ impl Writer<'_, '_, '_> {
         let flags = match container.shared {
             0 => Some(if named { 0xC0 } else { 0x40 }),
             id => {
-                self.put(&[id]);
+                self.put(&[if named { id | 0x80 } else { id }]);
                 None
             }
         };

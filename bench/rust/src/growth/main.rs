@@ -139,7 +139,7 @@ fn of_simulation() -> bool {
 fn of_nulls(contents: &Contents) -> Vec<u8> {
     let mut payload = vec![0x03];
     push_varuint(&mut payload, 1 + contents.bytes.len() as u64);
-    payload.push(0x01);
+    payload.push(0x81);
     payload.extend(&contents.bytes);
     payload
 }

@@ -107,7 +107,7 @@ fn spoil(random: &mut Random, frames: &mut Vec<Frame>) {
         // 1: the list ends early, between frames.
         0 => frames.truncate(at),
         // 2: a bad kind.
-        1 => frames[at].kind = *random.pick(&[0x03, 0x05, 0x15, 0x1D, 0x20, 0x42, 0xC8, 0xFF]),
+        1 => frames[at].kind = *random.pick(&[0x03, 0x05, 0x15, 0x1D, 0x20, 0x42, 0x88, 0xC8, 0xFF]),
         // 2: a frame that is cut inside.
         2 => {
             frames[at].payload.pop();

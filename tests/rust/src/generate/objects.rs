@@ -50,7 +50,7 @@ impl Value {
             Value::Leaf(_, payload) => return bytes.extend(payload),
             Value::Object(uniform, fields) => {
                 if *uniform {
-                    contents.extend(fields.first().map(|(_, value)| value.kind()));
+                    contents.extend(fields.first().map(|(_, value)| value.kind() | SHARED_FIELD_FLAGS));
                 }
                 for (name, value) in fields {
                     if !uniform {

@@ -147,7 +147,7 @@ impl Writer<'_> {
                 let shared = self.shared(&ids, |_| true);
                 let mut part = Vec::new();
                 if let Some(id) = shared {
-                    self.type_byte(&mut part, id, 0);
+                    self.type_byte(&mut part, id, SHARED_FIELD_FLAGS);
                 }
                 for ((name, _), (id, payload)) in fields.iter().zip(&encoded) {
                     if shared.is_none() {
@@ -210,7 +210,7 @@ fn untidiness(random: &mut Random) -> Untidy {
 /// A payload around some depth, from the inside: what stands innermost is a leaf, an empty or a broken container, and
 /// each container around it is of another form. The innermost field has the depth.
 pub fn depth_edge(random: &mut Random) -> Vec<u8> {
-    let innermost: [(u8, &[u8]); 22] = [
+    let innermost: [(u8, &[u8]); 27] = [
         (NULL, &[]),
         (INTEGER_POSITIVE, &[5]),
         (STRING, &[1, b'a']),
@@ -219,9 +219,13 @@ pub fn depth_edge(random: &mut Random) -> Vec<u8> {
         (OBJECT, &[2, 0xD5, 0]),
         (OBJECT, &[4, 0xC8, 1, b'a', 5]),
         (UNIFORM_OBJECT, &[0]),
-        (UNIFORM_OBJECT, &[1, 0x15]),
+        (UNIFORM_OBJECT, &[1, 0x95]),
         (UNIFORM_OBJECT, &[1, 8]),
+        (UNIFORM_OBJECT, &[1, 0x88]),
         (UNIFORM_OBJECT, &[4, 8, 1, b'a', 5]),
+        (UNIFORM_OBJECT, &[4, 0x48, 1, b'a', 5]),
+        (UNIFORM_OBJECT, &[4, 0x88, 1, b'a', 5]),
+        (UNIFORM_OBJECT, &[4, 0xC8, 1, b'a', 5]),
         (ARRAY, &[0]),
         (ARRAY, &[1, 0]),
         (ARRAY, &[1, 1]),
@@ -233,6 +237,7 @@ pub fn depth_edge(random: &mut Random) -> Vec<u8> {
         (UNIFORM_ARRAY, &[2, 1, 8]),
         (UNIFORM_ARRAY, &[2, 1, 13]),
         (UNIFORM_ARRAY, &[3, 1, 8, 5]),
+        (UNIFORM_ARRAY, &[3, 1, 0x88, 5]),
     ];
     let (id, payload) = *random.pick(&innermost);
     let (mut id, mut payload) = (id, payload.to_vec());
@@ -243,7 +248,7 @@ pub fn depth_edge(random: &mut Random) -> Vec<u8> {
         let around = if around == UNIFORM_ARRAY && has_no_payload(id) { ARRAY } else { around };
         match around {
             OBJECT => part.extend_from_slice(&[id | FIELD_FLAGS, 1, b'n']),
-            UNIFORM_OBJECT => part.extend_from_slice(&[id, 1, b'n']),
+            UNIFORM_OBJECT => part.extend_from_slice(&[id | SHARED_FIELD_FLAGS, 1, b'n']),
             ARRAY => part.extend_from_slice(&[1, id | ITEM_FLAGS]),
             _ => part.extend_from_slice(&[1, id]),
         }
@@ -259,10 +264,10 @@ pub fn depth_edge(random: &mut Random) -> Vec<u8> {
 }
 
 /// Bytes that mean something somewhere.
-const TELLING: [u8; 40] = [
+const TELLING: [u8; 45] = [
     0x00, 0x01, 0x02, 0x03, 0x04, 0x05, 0x06, 0x07, 0x08, 0x09, 0x0A, 0x0B, 0x0C, 0x0D, 0x0E, 0x11, 0x13, 0x14, 0x15,
-    0x1E, 0x1F, 0x20, 0x3F, 0x41, 0x42, 0x44, 0x45, 0x48, 0x61, 0x7F, 0x80, 0x81, 0xC0, 0xC1, 0xC2, 0xC3, 0xC4, 0xC8,
-    0xFE, 0xFF,
+    0x1E, 0x1F, 0x20, 0x3F, 0x41, 0x42, 0x44, 0x45, 0x48, 0x61, 0x7F, 0x80, 0x81, 0x82, 0x83, 0x84, 0x88, 0x8D, 0xC0,
+    0xC1, 0xC2, 0xC3, 0xC4, 0xC8, 0xFE, 0xFF,
 ];
 
 /// A few telling bytes.

@@ -85,7 +85,7 @@ fn encode_field(tree: &Tree, sizes: &mut Vec<usize>) -> Encoded {
             let encoded: Vec<Encoded> = fields.iter().map(|(_, tree)| encode_field(tree, sizes)).collect();
             let shared = one_id(&encoded);
             let mut part = Vec::new();
-            part.extend(shared);
+            part.extend(shared.map(|id| id | SHARED_FIELD_FLAGS));
             for ((name, _), field) in fields.iter().zip(&encoded) {
                 if shared.is_none() {
                     part.push(field.id | FIELD_FLAGS);

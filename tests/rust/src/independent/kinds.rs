@@ -54,6 +54,9 @@ pub const FIELD_FLAGS: u8 = 0xC0;
 /// "an item of 04 has ID + 40 hex".
 pub const ITEM_FLAGS: u8 = 0x40;
 
+/// "the shared byte of 03 is ID + 80 hex; 05 keeps the bare ID" (document 02, M-102).
+pub const SHARED_FIELD_FLAGS: u8 = 0x80;
+
 /// "Every other ID is unknown." A byte with a flag is above every ID, so it is unknown too.
 pub fn is_known(id: u8) -> bool {
     matches!(id, NULL..=OBJECT_ID | CUSTOM_BY_ID | CUSTOM_BY_NAME)

@@ -134,16 +134,6 @@ fn fit(size: u64, at: usize, end: usize) -> Result<usize, Stop> {
     }
 }
 
-/// The bare ID of a known kind at a byte, within an end.
-fn shared_byte(bytes: &[u8], at: usize, end: usize) -> Result<u8, Stop> {
-    let id = bytes.get(at..end).and_then(|part| part.first()).ok_or(Stop::Bounds)?;
-    if is_known(*id) {
-        Ok(*id)
-    } else {
-        Err(Stop::Type)
-    }
-}
-
 /// A field at a byte, "up to its contents", depth apart: "type byte present (1), then ID and flags (2); name; payload
 /// header; size; for 03 and 05 the shared byte". All is measured against the end of what is around it.
 pub fn read_field(bytes: &[u8], at: usize, end: usize, form: Form, flaws: &mut Flaws) -> Result<Field, Stop> {
@@ -168,6 +158,7 @@ pub fn read_field(bytes: &[u8], at: usize, end: usize, form: Form, flaws: &mut F
     Ok(Field { kind, name_start, name_end, payload })
 }
 
+/// The ID in the type byte or shared byte at a byte, within an end, and where it ends: "present (1), then ID and flags (2)".
 fn type_byte(bytes: &[u8], at: usize, end: usize, flags: u8) -> Result<(u8, usize), Stop> {
     let byte = bytes.get(at..end).and_then(|part| part.first()).ok_or(Stop::Bounds)?;
     let id = byte & 0x3F;
@@ -207,8 +198,7 @@ pub fn read_payload(bytes: &[u8], kind: u8, start: usize, end: usize, flaws: &mu
             payload.contents = Some(Contents { start: after, end, form: Form::Field, count: None });
         }
         UNIFORM_OBJECT => {
-            let shared = shared_byte(bytes, after, end)?;
-            let start = after + 1;
+            let (shared, start) = type_byte(bytes, after, end, SHARED_FIELD_FLAGS)?;
             if start == end {
                 return Err(Stop::Uniform);
             }
@@ -220,12 +210,12 @@ pub fn read_payload(bytes: &[u8], kind: u8, start: usize, end: usize, flaws: &mu
         }
         UNIFORM_ARRAY => {
             let (count, at) = varuint(bytes, after, end, flaws)?;
-            let shared = shared_byte(bytes, at, end)?;
+            let (shared, start) = type_byte(bytes, at, end, 0)?;
             if count == 0 || has_no_payload(shared) {
                 return Err(Stop::Uniform);
             }
             let form = Form::UniformItem(shared);
-            payload.contents = Some(Contents { start: at + 1, end, form, count: Some(count) });
+            payload.contents = Some(Contents { start, end, form, count: Some(count) });
         }
         BINARY => {}
         STRING => {
