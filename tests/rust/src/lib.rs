@@ -1,5 +1,6 @@
-//! The library held to document 01, and to what has landed of 02, from outside: an independent implementation of it in plain Rust, the
-//! library's calls behind safe wrappers, the cases, and a generator of inputs. The programs in `bin/` compare.
+//! The library held to document 01, and to what has landed of 02, from outside: an independent implementation of them in
+//! plain Rust, the library's calls behind safe wrappers, the cases, and a generator of inputs. The programs in `bin/`
+//! compare.
 
 pub mod caller;
 pub mod cases;

@@ -1,7 +1,7 @@
-//! Document 01, "The build defined, with its exact rules", and what has landed of 02, in plain Rust. It was written from the
-//! documents, from Compact Binary 1.0 and, where the documents leave room, from the readings that docs/DECISIONS.md has; not from the library's
-//! definitions or code, so that a mistake there is not repeated here. A reading that is wrong would be wrong in both. It is
-//! plain, not fast, and it never panics: every index is checked.
+//! Document 01, "The build defined, with its exact rules", and what has landed of 02, in plain Rust. It was written from
+//! the documents, from Compact Binary 1.0 and, where the documents leave room, from the readings that docs/DECISIONS.md
+//! has; not from the library's definitions or code, so that a mistake there is not repeated here. A reading that is wrong
+//! would be wrong in both. It is plain, not fast, and it never panics: every index is checked.
 
 pub mod encode;
 pub mod float;

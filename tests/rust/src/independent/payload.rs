@@ -158,7 +158,8 @@ pub fn read_field(bytes: &[u8], at: usize, end: usize, form: Form, flaws: &mut F
     Ok(Field { kind, name_start, name_end, payload })
 }
 
-/// The ID in the type byte or shared byte at a byte, within an end, and where it ends: "present (1), then ID and flags (2)".
+/// The ID in the type byte or shared byte at a byte, within an end, and where it ends: "present (1), then ID and flags
+/// (2)".
 fn type_byte(bytes: &[u8], at: usize, end: usize, flags: u8) -> Result<(u8, usize), Stop> {
     let byte = bytes.get(at..end).and_then(|part| part.first()).ok_or(Stop::Bounds)?;
     let id = byte & 0x3F;
