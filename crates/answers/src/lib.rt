@@ -1,3 +1,4 @@
+#![tactic(auto)]
 // What the program answers to what was typed ("The write list", the last paragraph of document 01).
 ghost use Rattle.std.specs.Prelude.{◌≡◌, ◌++◌, min, length, drop};
 ghost use Rattle.frames.specs.Program.{typed, bytes_typed, program};

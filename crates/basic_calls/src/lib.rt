@@ -1,3 +1,4 @@
+#![tactic(auto)]
 // The calls on parts of a payload and on floats, in numbers. What is asked is answered as 1 if it is so, and as 0 if not.
 ghost use Rattle.std.specs.Prelude.{◌≡◌};
 ghost use Rattle.text.specs.Equal.{equal};

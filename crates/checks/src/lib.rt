@@ -1,3 +1,4 @@
+#![tactic(auto)]
 // The checks of a field and of the contents of a container where names are not asked about. A field calls the check of its contents, which calls the check
 // of each field in them: the depth left falls.
 ghost use Rattle.std.specs.Prelude.{◌≡◌, false};

@@ -1,3 +1,4 @@
+#![tactic(auto)]
 // The order of the names of two entries.
 ghost use Rattle.std.specs.Prelude.{◌≡◌, ◌+◌, ◌≤◌, ◌<◌, length};
 ghost use Rattle.entries.specs.Entry.{bytes_at, name_in};

@@ -1,3 +1,4 @@
+#![tactic(auto)]
 // A container, by the ID that its fields share: 0 if it has none, 255 if their IDs differ. `named` says whether it is an object. And the number that
 // stands for a container between the writer's passes.
 ghost use Rattle.std.specs.Prelude.{◌≡◌, ◌≤◌, length, set, get_or};

@@ -1,3 +1,4 @@
+#![tactic(auto)]
 // What was checked of a field and of the contents of a container, and what is said of all the fields or items in it.
 ghost use Rattle.std.specs.Prelude.{◌≡◌};
 ghost use Rattle.format.specs.Reader.{is_typed};

@@ -1,1 +1,2 @@
+#![tactic(auto)]
 // No code: proofs/Demands.antt is the page that states what the owner demands.

@@ -1,3 +1,4 @@
+#![tactic(auto)]
 // The first twin of the entries of a table, in place: they are divided by one digit of their names after another, until those that are left are few or have
 // one name. A name's digits are its key and its bytes. The smaller part goes into the recursion, which so is no deeper than the table's length has bits.
 ghost use Rattle.std.specs.Prelude.{◌≡◌, cond, ◌+◌, ◌≤◌, ◌<◌, length, get_or, replicate, ltb};

@@ -1,3 +1,4 @@
+#![tactic(auto)]
 // A number as its VarUInt (document 01, "Numbers and the VarUInt").
 ghost use Rattle.std.specs.Prelude.{◌≡◌, ◌+◌, ◌/◌, ◌^◌, ◌≤◌, ◌<◌, length};
 ghost use Rattle.std.proofs.lemmas.List.Edits.{sets};

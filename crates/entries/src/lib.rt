@@ -1,3 +1,4 @@
+#![tactic(auto)]
 // Names of a part as the numbers of a table: each is one number.
 ghost use Rattle.std.specs.Prelude.{◌≡◌, ◌≤◌, ◌<◌, length, replicate};
 ghost use Rattle.entries.specs.Entry.{begin_in, length_in, half_at, mark_of, entry_of};

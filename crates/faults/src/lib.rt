@@ -1,3 +1,4 @@
+#![tactic(auto)]
 // The faults that do not stop, as they are kept while a payload is read. What each is worth, format's specs/Mask.antt says.
 ghost use Rattle.std.specs.Prelude.{◌≡◌};
 ghost use Rattle.format.specs.Mask.{flaw_value};

@@ -1,3 +1,4 @@
+#![tactic(auto)]
 // Floats by their bits.
 ghost use Rattle.std.specs.Prelude.{◌≡◌};
 ghost use Rattle.float.specs.Rule.{holds};

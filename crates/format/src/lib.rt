@@ -1,3 +1,4 @@
+#![tactic(auto)]
 // The kinds of document 01, where a type byte and a field stand, the faults that stop, and the limits. What they mean, as numbers and values of
 // document 01, specs/ says.
 ghost use Rattle.std.specs.Prelude.{◌≡◌};

@@ -1,3 +1,4 @@
+#![tactic(auto)]
 // One frame of the write list, by what stands behind a position of it: a kind, a name, a leaf. Positions in the answers count from there, or from
 // the front of the list where that is lent.
 ghost use Rattle.std.specs.Prelude.{◌≡◌, ◌≤◌, length, drop};

@@ -1,3 +1,4 @@
+#![tactic(auto)]
 // What the writer answers.
 ghost use Rattle.std.specs.Prelude.{◌≡◌};
 ghost use Rattle.frames.specs.Writer.{refusal_number};

@@ -1,3 +1,4 @@
+#![tactic(auto)]
 // What stands before a payload: a type byte and a name; a size, and text behind a size.
 ghost use Rattle.std.specs.Prelude.{◌≡◌, ◌≤◌, length};
 ghost use Rattle.format.specs.declared.Form.TheVariants.{SharedField};

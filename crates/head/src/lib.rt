@@ -1,3 +1,4 @@
+#![tactic(auto)]
 // A payload up to its contents, and a field up to its contents.
 ghost use Rattle.std.specs.Prelude.{◌≡◌, ◌≤◌, length};
 ghost use Rattle.number.specs.VarUInt.{var_uint};

@@ -1,3 +1,4 @@
+#![tactic(auto)]
 // Lower-case hexadecimal, part by part, as the program reads it ("The write list", the last paragraph of document 01).
 ghost use Rattle.std.specs.Prelude.{◌≡◌, length};
 ghost use Rattle.hexadecimal.specs.Typing.{told, start, afterwards, one_more, put, fed_second, fed_one, fed};

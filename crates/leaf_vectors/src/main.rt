@@ -1,3 +1,4 @@
+#![tactic(auto)]
 // Runs the examples of Spec 2.7 both ways, and the floats of document 01. The stored output is written from the documents.
 use encode::Stored;
 use libc::STDOUT_FILENO;

@@ -1,3 +1,4 @@
+#![tactic(auto)]
 // A payload up to its contents, of a leaf: only where it ends is answered.
 ghost use Rattle.std.specs.Prelude.{◌≡◌};
 ghost use Rattle.number.specs.VarUInt.{var_uint};

@@ -1,3 +1,4 @@
+#![tactic(auto)]
 // The writer's first pass ("The write list"): it checks every frame, and settles the containers' sizes and all IDs. It cannot reach the output.
 ghost use Rattle.std.specs.Prelude.{◌≡◌, true, false, ◌+◌, ◌≤◌, ◌<◌, length};
 ghost use Rattle.number.specs.VarUInt.{encoded};

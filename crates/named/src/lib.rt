@@ -1,3 +1,4 @@
+#![tactic(auto)]
 // The checks of `checks` where names are asked about. The notes of an object stand in front of a table, and what is behind them is lent down.
 ghost use Rattle.std.specs.Prelude.{◌≡◌, ◌≤◌, ◌<◌, length};
 ghost use Rattle.format.specs.Limits.{length_limit};

@@ -1,3 +1,4 @@
+#![tactic(auto)]
 // Where the name of a field stands.
 ghost use Rattle.std.specs.Prelude.{◌≡◌, ◌≤◌, length};
 ghost use Rattle.names.specs.FieldNames.{ended_at, name_of, name_at};

@@ -1,3 +1,4 @@
+#![tactic(auto)]
 // The names of an object of the write list. They are noted while its frames are read, and at its end the first frame is told whose name it has already
 // ("The write list"). Positions are the list's, and one behind its end counts as its end.
 ghost use Rattle.std.specs.Prelude.{◌≡◌};

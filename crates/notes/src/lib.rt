@@ -1,3 +1,4 @@
+#![tactic(auto)]
 // Names noted while an object is read: the few of a small object all, in a table; of many only that they ascend, and the last. What comes of them at the
 // object's end is where the first name begins that stands a second time.
 ghost use Rattle.std.specs.Prelude.{◌≡◌, [], ◌∷◌, ◌++◌, take};

@@ -1,3 +1,4 @@
+#![tactic(auto)]
 // Numbers (document 01, "Numbers and the VarUInt").
 ghost use Rattle.std.specs.Prelude.{◌≡◌, ◌-◌, ◌^◌, ◌≤◌, ◌<◌, length, take, drop};
 ghost use Rattle.number.specs.BigEndian.{behind};

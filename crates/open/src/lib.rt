@@ -1,3 +1,4 @@
+#![tactic(auto)]
 // A place, opened: the whole check of it, which every reading call makes first, since a place may be forged ("Places, views and values").
 ghost use Rattle.std.specs.Prelude.{◌≡◌, ◌+◌, ◌≤◌, length, []};
 ghost use Rattle.format.specs.Limits.{length_limit};

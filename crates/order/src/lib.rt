@@ -1,3 +1,4 @@
+#![tactic(auto)]
 // The entries of a table, put in the order of their names, up to the first that has the name of one before it.
 ghost use Rattle.std.specs.Prelude.{◌≡◌, ◌++◌, ◌+◌, ◌-◌, ◌*◌, ◌≤◌, ◌<◌, length, take, replicate};
 ghost use Rattle.order.specs.Arranged.{arranged, afterwards};

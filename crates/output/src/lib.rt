@@ -1,3 +1,4 @@
+#![tactic(auto)]
 // Bytes of a write list copied into the output, and what the second pass asks again of a frame: a Float64's bits and the ID as encoded.
 ghost use Rattle.std.specs.Prelude.{◌≡◌, ◌+◌, ◌-◌, ◌≤◌, length};
 ghost use Rattle.std.proofs.lemmas.List.Edits.{sets};

@@ -1,3 +1,4 @@
+#![tactic(auto)]
 // Entries of one name, and the first of some entries that has the name of one before it.
 ghost use Rattle.std.specs.Prelude.{◌≡◌, ◌<◌, length, take, get_or};
 ghost use Rattle.entries.specs.Least.{is_first, least};

@@ -1,3 +1,4 @@
+#![tactic(auto)]
 // The names of the frames of an object, one after another. What is inside a frame is passed over: its frames were read before, and nothing is checked.
 ghost use Rattle.std.specs.Prelude.{◌≡◌, ◌≤◌, ◌<◌, length};
 ghost use Rattle.passing.specs.Code.{name_end, leaf_end, contents_end, payload_end, frame_end};

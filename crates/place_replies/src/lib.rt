@@ -1,3 +1,4 @@
+#![tactic(auto)]
 // What the calls for C and Rust are handed and answer of places, in numbers: a place as its four numbers, and an answer as the number of its case,
 // where the lent numbers then start with the case's values.
 ghost use Rattle.std.specs.Prelude.{◌≡◌, ◌≤◌, length};

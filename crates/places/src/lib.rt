@@ -1,3 +1,4 @@
+#![tactic(auto)]
 // Places, and what the calls on them answer ("Places, views and values").
 ghost use Rattle.std.specs.Prelude.{◌≡◌};
 ghost use Rattle.places.specs.Places.{place_with, top};

@@ -1,3 +1,4 @@
+#![tactic(auto)]
 // The text that the program prints, put into what is lent for it.
 ghost use Rattle.std.specs.Prelude.{◌≡◌, ◌++◌, ◌+◌, ◌*◌, ◌≤◌, ◌<◌, length};
 ghost use Rattle.format.specs.Encoding.{concat};

@@ -1,3 +1,4 @@
+#![tactic(auto)]
 // The program that reads a write list and prints its encoding, or why it is refused ("The write list", the last paragraph of document 01). No contract
 // can say what is read or written: what stands between is `hexadecimal::feed`, part by part, and `answers::answer`.
 ghost use Rattle.std.specs.Prelude.{◌≡◌, cond, ◌⊎◌, ◌≤◌, length};

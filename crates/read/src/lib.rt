@@ -1,3 +1,4 @@
+#![tactic(auto)]
 // Steps and lookup ("Places, views and values"). A place may be forged: every call makes the whole check of its place first.
 ghost use Rattle.std.specs.Prelude.{◌≡◌, suc, ◌+◌, ◌≤◌, ◌<◌, length};
 ghost use Rattle.format.specs.Limits.{length_limit};

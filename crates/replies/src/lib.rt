@@ -1,3 +1,4 @@
+#![tactic(auto)]
 // What the calls for C and Rust answer, in numbers: a truth as 1 or 0, and an answer that is a number as the number of its case, where the lent
 // numbers then start with the case's values.
 ghost use Rattle.std.specs.Prelude.{◌≡◌};

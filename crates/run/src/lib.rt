@@ -1,3 +1,4 @@
+#![tactic(auto)]
 // The kinds of the fields met so far, as one number: 0 for no field, the ID that all of them have, or 255 if their IDs differ.
 ghost use Rattle.std.specs.Prelude.{◌≡◌};
 ghost use Rattle.format.specs.Kinds.{id};

@@ -1,3 +1,4 @@
+#![tactic(auto)]
 // Where the first name begins that is equal to one before it, among names that stand in a part one after another: of as many names as there are, in a table of
 // any length. If it holds them all, they are divided at once; else the first of them are, and if none of these stands twice, each pass over the part takes the
 // least names that are above those of the passes before, as many as the table holds, and arranges them.

@@ -1,3 +1,4 @@
+#![tactic(auto)]
 // The writer's answer in numbers. 0: the number lent is the encoding's length. 1 to 11: refused, and it is the place. With no number lent it is 12, and
 // refused too.
 ghost use Rattle.std.specs.Prelude.{◌≡◌};

@@ -1,3 +1,4 @@
+#![tactic(auto)]
 // What a write list comes to once its top field is measured ("The write list"): that field's refusal; the refusals that only the whole list shows; or the
 // encoding's ID and length.
 ghost use Rattle.std.specs.Prelude.{◌≡◌};

@@ -1,3 +1,4 @@
+#![tactic(auto)]
 // What is asked of all entries of a table: whether their names stand in the part, and where the second of them begins.
 ghost use Rattle.std.specs.Prelude.{◌≡◌};
 ghost use Rattle.tables.specs.Fit.{fits, all_fit};

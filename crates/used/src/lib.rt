@@ -1,3 +1,4 @@
+#![tactic(auto)]
 // Where a frame of an object stands, told by where its name begins: what is known of names that stand twice is where the second begins, and a refusal has the
 // frame's place ("The write list").
 ghost use Rattle.std.specs.Prelude.{◌≡◌};

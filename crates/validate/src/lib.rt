@@ -1,3 +1,4 @@
+#![tactic(auto)]
 // The validator.
 ghost use Rattle.std.specs.Prelude.{◌≡◌, ◌≤◌, ◌<◌, cond, false, length};
 ghost use Rattle.format.specs.Limits.{length_limit};

@@ -1,3 +1,4 @@
+#![tactic(auto)]
 // The values of places, in numbers: 0, where the lent numbers then start with the value; the number of the fault met; or 6 for a wrong kind, 7 for out of
 // range; 12, before all else, for too few numbers lent. After any but 0 the lent numbers are as before.
 ghost use Rattle.std.specs.Prelude.{◌≡◌};

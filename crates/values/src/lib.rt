@@ -1,3 +1,4 @@
+#![tactic(auto)]
 // The values that a place holds ("Places, views and values").
 ghost use Rattle.std.specs.Prelude.{◌≡◌};
 ghost use Rattle.number.specs.VarUInt.{var_uint};

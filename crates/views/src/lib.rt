@@ -1,3 +1,4 @@
+#![tactic(auto)]
 // A place's bytes, and a name's ("Places, views and values"). A place may be forged: every call makes the whole check of its place first.
 ghost use Rattle.std.specs.Prelude.{◌≡◌};
 ghost use Rattle.format.specs.Kinds.{has_size};

@@ -1,3 +1,4 @@
+#![tactic(auto)]
 // The writer ("The write list"). The first pass checks every frame and settles the containers' sizes and all IDs. The second pass cannot fail: it writes the
 // encoding from front to back, by the numbers that the first one left.
 ghost use Rattle.std.specs.Prelude.{◌≡◌, ◌++◌, ◌+◌, ◌-◌, ◌*◌, ◌≤◌, ◌<◌, length, get_or};
