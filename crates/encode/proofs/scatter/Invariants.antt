@@ -1,0 +1,11 @@
+-- `encode::scatter` meets its contract. The loop's invariant: the bytes behind `at + i` are put. Assumes nothing.
+use native.Mathlib.Omega.{arith}
+use borrow.Author.Rules.{rules}
+use Rattle.encode.proofs.PutLaws.{Scattered, scattered_start, scattered_again, scattered_end, scattered_length}
+use Rattle.encode.proofs.scatter.Given as goal
+
+abbrev pub invariant-loop-i : goal.invariant-loop-i
+invariant-loop-i l = Scattered l.v l.at l.n l.initial.out l.out l.rest l.i
+
+abbrev pub decreases-loop-i : goal.decreases-loop-i
+decreases-loop-i l = l.i

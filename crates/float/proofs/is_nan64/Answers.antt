@@ -1,0 +1,8 @@
+-- `is_nan64` is one comparison of the pattern without its sign.
+use mathlib.Core.Path.{sym}
+use lib.Ieee.{binary64}
+use lib.Ieee.Bits.{nan_bits_above}
+use Rattle.float.proofs.is_nan64.Goals as goal
+
+pub returns : goal.returns
+returns c = sym (nan_bits_above binary64 c.args.bits)

@@ -1,0 +1,19 @@
+-- `widen` keeps a NaN's sign and moves its fraction up, and any other number is the machine's own conversion.
+use borrow.Author.Rules.{rules}
+use Rattle.float.proofs.Casts.{nan_widened, bits_good, value_good, widens, number_widened}
+use Rattle.float.proofs.widen.Goals as goal
+
+pub returns-then-bits-gt2139095040 : goal.returns-then-bits-gt2139095040
+returns-then-bits-gt2139095040 c = search nan_widened
+
+pub float_from_bits-result : goal.float_from_bits-result
+float_from_bits-result c = search bits_good
+
+pub float_to_float-result : goal.float_to_float-result
+float_to_float-result c = search widens
+
+pub float_to_bits-result : goal.float_to_bits-result
+float_to_bits-result c = search value_good
+
+pub returns : goal.returns
+returns c = search number_widened

@@ -1,0 +1,17 @@
+use borrow.Author.Rules.{rules}
+use native.Mathlib.Omega.{arith}
+use Prim.Native.Nat.{◌-◌, ◌≤◌}
+use mathlib.Core.Path.{refl}
+use mathlib.Core.Bool.{true}
+use mathlib.Core.List.{[]}
+use lib.ListN.{length}
+use borrow.Author.Tests.{not-false}
+use Rattle.text.specs.Passed.{Passed}
+use Rattle.text.proofs.Steps.{passed_none, passed_on}
+use Rattle.text.proofs.ascii_blocks.Goals as goal
+
+pub loop-to-init : goal.loop-to-init
+loop-to-init c = (omega arith, omega arith, passed_none _ _ _ (omega arith) refl)
+
+pub loop-to-preserved : goal.loop-to-preserved
+loop-to-preserved c = (omega arith, omega arith, passed_on _ _ _ _ _ _ c.loop-to.invariant.2 (c.ascii_block.ensures c.if-not-ascii_block.false))
