@@ -17,6 +17,8 @@ import sys
 # An identifier of antt: what stands between spaces and brackets. A projection's point ends it.
 TOKEN = re.compile(r"[A-Za-zα-ωμ_][A-Za-z0-9_'α-ωκ₀-₉⁰¹²³\-]*")
 DECLARED = re.compile(r"^\s*(?:(?:abbrev|unfoldable|pub|data|record|private|ruleset)\s+)*([A-Za-z_][A-Za-z0-9_'\-]*)\s+(?::|=(?!>))")
+# Several names of one type, as constructors of a data are declared.
+SEVERAL = re.compile(r"^\s+((?:[A-Za-z_][A-Za-z0-9_'\-]*\s+)+):")
 LET = re.compile(r"\blet ([A-Za-z_][A-Za-z0-9_'\-]*)\s")
 # Words that look like names of two words and are one.
 WORDS = {"UInt": "Uint", "FNaN": "Fnan"}
@@ -93,13 +95,16 @@ def main(dry):
             if m:
                 names.add(m.group(1))
             names.update(LET.findall(c))
+            m2 = SEVERAL.match(c)
+            if m2:
+                names.update(m2.group(1).split())
             # the fields of a record and the constructors of a data, a line each
             if re.match(r"(?:pub )?(?:data|record)\b", c.strip()):
                 inside = True
             elif c and not c[0].isspace():
                 inside = False
-            if inside and m:
-                fields.add(m.group(1))
+            if inside and (m or m2):
+                fields.update(m2.group(1).split() if m2 else [m.group(1)])
             # the local functions of a `where`, the parameters of a clause and the variables of a λ
             names.update(n for b in re.findall(r"[({]([A-Za-z0-9_' \-]+) :", c) for n in b.split())
             for b in re.findall(r"λ ([^.()]*)\.", c):

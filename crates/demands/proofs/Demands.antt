@@ -75,7 +75,7 @@ use Rattle.frames.proofs.Answers as answers
 use Rattle.frames.proofs.Writable.{success}
 use Rattle.frames.proofs.Writable as writable
 use Rattle.frames.proofs.WrittenAs.{WrittenAs}
-use Rattle.frames.proofs.WrittenAs as writtenAs
+use Rattle.frames.proofs.WrittenAs as written_as
 use Rattle.frames.proofs.RefusedPlaces as refusals
 use Rattle.frames.proofs.FirstFaulty as faulty
 use Rattle.frames.proofs.Refusals as frames
@@ -249,7 +249,7 @@ pub described_written : (list : List ℕ) (t : Tree depth_limit) → read_list d
     → length (encoding depth_limit t) ≤ length_limit
     → (output work : List ℕ) → length (encoding depth_limit t) ≤ length output → length (sizes_of depth_limit t) ≤ length work
     → WrittenAs t output work (written list output work)
-described_written = writtenAs.described_list_written
+described_written = written_as.described_list_written
 
 -- 2. every tree within the limits is described by a list, `list_of`, and so written with the same provisos
 pub tree_written : (t : Tree depth_limit) → WithinLimits t → length (list_of depth_limit t) ≤ length_limit

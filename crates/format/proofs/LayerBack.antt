@@ -138,11 +138,11 @@ module _ {A X : Type 0} (p : Reader X) (kind : A → Kind) (lay : A → X) (pay 
       by (leaf q) only e = leaf_inv k q only s h t r w e c
       by P.fields z e = sized_case read_fields w e λ b i es wb l.
           let j = fields_inv b h t wb i c in (object j.0, j.1, rw j.3 (cc), rw (j.3, z), j.4)
-      by P.sharedFields z e = sized_case read_shared_fields w e λ b i es wb l.
+      by P.shared_fields z e = sized_case read_shared_fields w e λ b i es wb l.
           let j = shared_fields_inv b h t wb i c in (object j.0, j.1, rw j.3 (cc), rw (j.3, z), j.4)
       by P.items z e = sized_case read_items w e λ b i es wb l.
           let j = items_inv b h t wb i c in (array j.0, j.1, rw j.3 (cc), rw (j.3, z), j.4)
-      by P.sharedItems z e = sized_case (λ b. bind (read_var_uint b) read_shared_items) w e λ b i es wb l.
+      by P.shared_items z e = sized_case (λ b. bind (read_var_uint b) read_shared_items) w e λ b i es wb l.
           let j = shared_items_inv b h t wb i c in (array j.0, j.1, rw j.3 (cc), rw (j.3, z), j.4)
 
   pub node_inv : (k : Kind) (s : List ℕ) (t : Node (Standing X)) (r : List ℕ) → Bytes s → read_node p k s ≡ got t [] r → NodeBack k s t r

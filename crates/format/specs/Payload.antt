@@ -127,7 +127,7 @@ class_of k = class_in (shape_of k)
 
 pub data Payload : Type 0 where
   leaf : (List ℕ → Out Leaf) → Payload
-  fields sharedFields items sharedItems : Payload
+  fields shared_fields items shared_items : Payload
 
 abbrev pub payload_in : Shape → Payload
 payload_in (nothing v) = leaf λ s. got v [] s
@@ -140,9 +140,9 @@ payload_in (behind I.Bytes) = leaf λ s. make binary (sized rest s)
 payload_in (behind I.ById) = leaf λ s. sized read_custom_by_id s
 payload_in (behind I.ByName) = leaf λ s. sized read_custom_by_name s
 payload_in (behind I.Fields) = fields
-payload_in (behind I.SharedFields) = sharedFields
+payload_in (behind I.SharedFields) = shared_fields
 payload_in (behind I.Items) = items
-payload_in (behind I.SharedItems) = sharedItems
+payload_in (behind I.SharedItems) = shared_items
 
 unfoldable pub payload : Kind → Payload
 payload k = payload_in (shape_of k)
@@ -182,9 +182,9 @@ read_items s = bind (read_var_uint s) λ n r. got (items_in Item n r) [] []
 abbrev pub head_by : Payload → List ℕ → Out Head
 head_by (leaf p) s = make value (p s)
 head_by fields s = sized read_fields s
-head_by sharedFields s = sized read_shared_fields s
+head_by shared_fields s = sized read_shared_fields s
 head_by items s = sized read_items s
-head_by sharedItems s = sized (λ b. bind (read_var_uint b) read_shared_items) s
+head_by shared_items s = sized (λ b. bind (read_var_uint b) read_shared_items) s
 
 unfoldable pub head : Kind → List ℕ → Out Head
 head k s = head_by (payload k) s

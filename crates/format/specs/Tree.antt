@@ -15,8 +15,8 @@ pub data Leaf : Type 0 where
   integer : ℤ → Leaf
   float : Float → Leaf
   binary string : List ℕ → Leaf
-  objectAttachment binaryAttachment hash uuid objectId : List ℕ → Leaf
-  dateTime timeSpan : ℤ → Leaf
+  object_attachment binary_attachment hash uuid object_id : List ℕ → Leaf
+  date_time time_span : ℤ → Leaf
   custom_by_id : ℕ → List ℕ → Leaf
   custom_by_name : List ℕ → List ℕ → Leaf
 
@@ -65,13 +65,13 @@ LeafWithin (integer z) = IntegerWithin z
 LeafWithin (float x) = FloatWithin x
 LeafWithin (binary s) = Bytes s
 LeafWithin (string s) = Text s
-LeafWithin (objectAttachment s) = BytesOf 20 s
-LeafWithin (binaryAttachment s) = BytesOf 20 s
+LeafWithin (object_attachment s) = BytesOf 20 s
+LeafWithin (binary_attachment s) = BytesOf 20 s
 LeafWithin (hash s) = BytesOf 20 s
 LeafWithin (uuid s) = BytesOf 16 s
-LeafWithin (objectId s) = BytesOf 12 s
-LeafWithin (dateTime z) = TicksWithin z
-LeafWithin (timeSpan z) = TicksWithin z
+LeafWithin (object_id s) = BytesOf 12 s
+LeafWithin (date_time z) = TicksWithin z
+LeafWithin (time_span z) = TicksWithin z
 LeafWithin (custom_by_id n s) = (n < 2 ^ 64) × Bytes s
 LeafWithin (custom_by_name n s) = Text n × Bytes s
 

@@ -10,14 +10,14 @@ use Rattle.frames.specs.Writer.{refusal_number, Outcome, refuse, wrote, outcome}
 -- a line feed means nothing
 pub data Character : Type 0 where
   digit : ℕ → Character
-  lineFeed another : Character
+  line_feed another : Character
 
 -- lower-case hexadecimal: 0 to 9 are 30 to 39, a to f are 61 to 66
 abbrev pub character : ℕ → Character
 character c =
     cond (leb 0x30 c && leb c 0x39) (digit (c - 0x30))
     (cond (leb 0x61 c && leb c 0x66) (digit (c - 0x61 + 10))
-    (cond (eqb c 0x0a) lineFeed another))
+    (cond (eqb c 0x0a) line_feed another))
 
 -- the bytes; or the place of the byte being formed at another character, or at the end after an odd digit
 pub data Typed : Type 0 where
@@ -32,8 +32,8 @@ first b (mistyped n) = mistyped n
 abbrev pub type_one : ℕ → Option ℕ → Character → (ℕ → Option ℕ → Typed) → Typed
 type_one n none (digit d) go = go n (some d)
 type_one n (some h) (digit d) go = first (h * 16 + d) (go (suc n) none)
-type_one n none lineFeed go = go n none
-type_one n (some h) lineFeed go = go n (some h)
+type_one n none line_feed go = go n none
+type_one n (some h) line_feed go = go n (some h)
 type_one n none another go = mistyped n
 type_one n (some h) another go = mistyped n
 
