@@ -47,6 +47,7 @@ module _ (s : List ℕ) (x y : ℕ) where
 
 pub twin_in : (s t : List ℕ) (x e : ℕ) → In x t → is_first s x e ≡ true → is_twin s t e ≡ true
 unfolding is_twin
+twin_in s [] x e x4 h = elim x4 [ ]
 twin_in s (y ∷ t) x e here h = rw h
 twin_in s (y ∷ t) x e (there i) h = go (is_first s y e) (twin_in s t x e i h)
   where
@@ -95,6 +96,7 @@ lesser_second a b l = rw (le-ltb a b l)
 -- it is no more than the beginning of a twin, and what is no more than any of these is no more than it
 least_least : (s t : List ℕ) (e : ℕ) (es : List ℕ) → In e es → is_twin s t e ≡ true → least_of s t es ≤ begin_in e
 unfolding least_of
+least_least s t e [] x'' h = elim x'' [ ]
 least_least s t e (d ∷ es) here h = rw h (lesser_left (begin_in e) (least_of s t es))
 least_least s t e (d ∷ es) (there i) h = go (is_twin s t d) (least_least s t e es i h)
   where

@@ -39,6 +39,7 @@ perm_length swap = refl
 perm_length (then p q) = perm_length p ∙ perm_length q
 
 pub perm_in : {e : ℕ} {xs ys : List ℕ} → Perm xs ys → In e xs → In e ys
+perm_in {e = e} done i = elim i [ ]
 perm_in (keep p) here = here
 perm_in (keep p) (there i) = there (perm_in p i)
 perm_in swap here = there here
@@ -49,6 +50,7 @@ perm_in (then p q) i = perm_in q (perm_in p i)
 -- ---- an entry among those of two lists
 
 pub in_left : {e : ℕ} (xs ys : List ℕ) → In e xs → In e (xs ++ ys)
+in_left {e = e} [] ys x' = elim x' [ ]
 in_left (x ∷ xs) ys here = here
 in_left (x ∷ xs) ys (there i) = there (in_left xs ys i)
 
@@ -57,6 +59,7 @@ in_last [] y = here
 in_last (x ∷ xs) y = there (in_last xs y)
 
 pub in_cases : {X : Type 0} (e : ℕ) (xs : List ℕ) (y : ℕ) → In e (xs ++ (y ∷ [])) → (In e xs → X) → (e ≡ y → X) → X
+in_cases {X = X} e [] y (there i) f g = elim i [ ]
 in_cases e [] y here f g = g refl
 in_cases e (x ∷ xs) y here f g = f here
 in_cases e (x ∷ xs) y (there i) f g = in_cases e xs y i (λ j. f (there j)) g

@@ -75,26 +75,26 @@ returns-in-31 c = search (known_is, rules)
 pub returns-in_default : goal.returns-in_default
 returns-in_default c =
     known_none _ (elim [
-      | Null ↦ λ e. c.in_default.rest.0.0.0.0.0.0.0.0.0.0.0.0.0.0.0.0.0.0.0.0.0.1 e
-      | Object ↦ λ e. c.in_default.rest.0.0.0.0.0.0.0.0.0.0.0.0.0.0.0.0.0.0.0.0.1 e
-      | UniformObject ↦ λ e. c.in_default.rest.0.0.0.0.0.0.0.0.0.0.0.0.0.0.0.0.0.0.0.1 e
-      | Array ↦ λ e. c.in_default.rest.0.0.0.0.0.0.0.0.0.0.0.0.0.0.0.0.0.0.1 e
-      | UniformArray ↦ λ e. c.in_default.rest.0.0.0.0.0.0.0.0.0.0.0.0.0.0.0.0.0.1 e
-      | Binary ↦ λ e. c.in_default.rest.0.0.0.0.0.0.0.0.0.0.0.0.0.0.0.0.1 e
-      | String ↦ λ e. c.in_default.rest.0.0.0.0.0.0.0.0.0.0.0.0.0.0.0.1 e
-      | IntegerPositive ↦ λ e. c.in_default.rest.0.0.0.0.0.0.0.0.0.0.0.0.0.0.1 e
-      | IntegerNegative ↦ λ e. c.in_default.rest.0.0.0.0.0.0.0.0.0.0.0.0.0.1 e
-      | Float32 ↦ λ e. c.in_default.rest.0.0.0.0.0.0.0.0.0.0.0.0.1 e
-      | Float64 ↦ λ e. c.in_default.rest.0.0.0.0.0.0.0.0.0.0.0.1 e
-      | False ↦ λ e. c.in_default.rest.0.0.0.0.0.0.0.0.0.0.1 e
-      | True ↦ λ e. c.in_default.rest.0.0.0.0.0.0.0.0.0.1 e
-      | ObjectAttachment ↦ λ e. c.in_default.rest.0.0.0.0.0.0.0.0.1 e
-      | BinaryAttachment ↦ λ e. c.in_default.rest.0.0.0.0.0.0.0.1 e
-      | Hash ↦ λ e. c.in_default.rest.0.0.0.0.0.0.1 e
-      | Uuid ↦ λ e. c.in_default.rest.0.0.0.0.0.1 e
-      | DateTime ↦ λ e. c.in_default.rest.0.0.0.0.1 e
-      | TimeSpan ↦ λ e. c.in_default.rest.0.0.0.1 e
-      | ObjectId ↦ λ e. c.in_default.rest.0.0.1 e
-      | CustomById ↦ λ e. c.in_default.rest.0.1 e
-      | CustomByName ↦ λ e. c.in_default.rest.1 e
+      | Null ↦ λ e. c.in_default.in_default-own.rest.0.0.0.0.0.0.0.0.0.0.0.0.0.0.0.0.0.0.0.0.0.1 e
+      | Object ↦ λ e. c.in_default.in_default-own.rest.0.0.0.0.0.0.0.0.0.0.0.0.0.0.0.0.0.0.0.0.1 e
+      | UniformObject ↦ λ e. c.in_default.in_default-own.rest.0.0.0.0.0.0.0.0.0.0.0.0.0.0.0.0.0.0.0.1 e
+      | Array ↦ λ e. c.in_default.in_default-own.rest.0.0.0.0.0.0.0.0.0.0.0.0.0.0.0.0.0.0.1 e
+      | UniformArray ↦ λ e. c.in_default.in_default-own.rest.0.0.0.0.0.0.0.0.0.0.0.0.0.0.0.0.0.1 e
+      | Binary ↦ λ e. c.in_default.in_default-own.rest.0.0.0.0.0.0.0.0.0.0.0.0.0.0.0.0.1 e
+      | String ↦ λ e. c.in_default.in_default-own.rest.0.0.0.0.0.0.0.0.0.0.0.0.0.0.0.1 e
+      | IntegerPositive ↦ λ e. c.in_default.in_default-own.rest.0.0.0.0.0.0.0.0.0.0.0.0.0.0.1 e
+      | IntegerNegative ↦ λ e. c.in_default.in_default-own.rest.0.0.0.0.0.0.0.0.0.0.0.0.0.1 e
+      | Float32 ↦ λ e. c.in_default.in_default-own.rest.0.0.0.0.0.0.0.0.0.0.0.0.1 e
+      | Float64 ↦ λ e. c.in_default.in_default-own.rest.0.0.0.0.0.0.0.0.0.0.0.1 e
+      | False ↦ λ e. c.in_default.in_default-own.rest.0.0.0.0.0.0.0.0.0.0.1 e
+      | True ↦ λ e. c.in_default.in_default-own.rest.0.0.0.0.0.0.0.0.0.1 e
+      | ObjectAttachment ↦ λ e. c.in_default.in_default-own.rest.0.0.0.0.0.0.0.0.1 e
+      | BinaryAttachment ↦ λ e. c.in_default.in_default-own.rest.0.0.0.0.0.0.0.1 e
+      | Hash ↦ λ e. c.in_default.in_default-own.rest.0.0.0.0.0.0.1 e
+      | Uuid ↦ λ e. c.in_default.in_default-own.rest.0.0.0.0.0.1 e
+      | DateTime ↦ λ e. c.in_default.in_default-own.rest.0.0.0.0.1 e
+      | TimeSpan ↦ λ e. c.in_default.in_default-own.rest.0.0.0.1 e
+      | ObjectId ↦ λ e. c.in_default.in_default-own.rest.0.0.1 e
+      | CustomById ↦ λ e. c.in_default.in_default-own.rest.0.1 e
+      | CustomByName ↦ λ e. c.in_default.in_default-own.rest.1 e
     ])
