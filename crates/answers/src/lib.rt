@@ -19,7 +19,7 @@ pub const NUMBERS: usize = 16384;
 pub const TEXT: usize = 131073;
 
 // How many characters the answer's text has, and whether it is a refusal.
-#[derive(Drop)]
+#[derive(Clone, Copy)]
 pub struct Printed {
     pub length: usize,
     pub refused: bool,

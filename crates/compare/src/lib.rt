@@ -5,7 +5,7 @@ ghost use Rattle.entries.specs.Entry.{bytes_at, name_in};
 ghost use Rattle.compare.specs.Order.{order, upto, ascends};
 ghost use Rattle.compare.specs.Code.{size_at};
 
-#[derive(Drop)]
+#[derive(Clone, Copy)]
 pub enum Order {
     Less,
     Same,

@@ -8,7 +8,7 @@ use faults::{Faults, Modes};
 use format::{Flaw, Form, Kind, Stop};
 
 // A field: the first fault that stops; or its kind, its end, and the faults met so far.
-#[derive(Drop)]
+#[derive(Clone, Copy)]
 pub enum Field {
     Stop(Stop),
     Read {
@@ -19,7 +19,7 @@ pub enum Field {
 }
 
 // The contents of a container.
-#[derive(Drop)]
+#[derive(Clone, Copy)]
 pub enum Contents {
     Stop(Stop),
     Read(Faults),

@@ -16,6 +16,7 @@ in_take (suc n) (y ∷ t) here = here
 in_take (suc n) (y ∷ t) (there i) = there (in_take n t i)
 
 pub in_drop : {x : ℕ} (n : ℕ) (t : List ℕ) → In x (drop n t) → In x t
+in_drop (suc n) [] i = elim i [ ]
 in_drop zero t i = i
 in_drop (suc n) (y ∷ t) i = there (in_drop n t i)
 

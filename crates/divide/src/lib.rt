@@ -7,21 +7,21 @@ ghost use Rattle.entries.specs.Least.{least};
 ghost use Rattle.divide.specs.Divided.{divided};
 ghost use Rattle.divide.specs.Passes.{digit_in, count_front, Reach, Alike, Astride, Ranges, Splits, Parts, Narrows, Tells};
 
-#[derive(Drop)]
+#[derive(Clone, Copy)]
 pub enum Divided {
     Unfit,
     Done(usize),
 }
 
 // The least and the greatest digit.
-#[derive(Drop)]
+#[derive(Clone, Copy)]
 struct Range {
     low: usize,
     high: usize,
 }
 
 // The first `count` entries are left, whose names are alike up to `at`; `best` is the first twin of the others.
-#[derive(Drop)]
+#[derive(Clone, Copy)]
 struct Rest {
     best: usize,
     count: usize,

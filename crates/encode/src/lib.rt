@@ -7,7 +7,7 @@ ghost use Rattle.number.specs.VarUInt as var;
 ghost use Rattle.encode.specs.Put.{afterwards, put_at};
 
 // The position behind what was put.
-#[derive(Drop)]
+#[derive(Clone, Copy)]
 pub enum Stored {
     Done(usize),
     NoRoom,

@@ -7,14 +7,14 @@ ghost use Rattle.faults.specs.Noted.{nothing, asks, noted, flaw_if, is_noted, su
 use format::Flaw;
 
 // What is asked for besides the bounds checks.
-#[derive(Drop)]
+#[derive(Clone, Copy)]
 pub struct Modes {
     pub names: bool,
     pub format: bool,
 }
 
 // The faults that do not stop, of those met so far: the sum of their values, each once. (A number of 64 bits is copied as it was stored.)
-#[derive(Drop)]
+#[derive(Clone, Copy)]
 pub struct Faults {
     pub sum: u64,
 }

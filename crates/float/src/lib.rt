@@ -5,13 +5,13 @@ ghost use Rattle.float.specs.Rule.{holds};
 ghost use Rattle.float.specs.Width.{is_nan32, is_nan64, widen};
 ghost use Rattle.float.specs.Answer.{narrowed, exact};
 
-#[derive(Drop)]
+#[derive(Clone, Copy)]
 pub enum Narrowed {
     To(u32),
     No,
 }
 
-#[derive(Drop)]
+#[derive(Clone, Copy)]
 pub enum Exact {
     Bits(u64),
     OutOfRange,

@@ -12,7 +12,7 @@ pub const DEPTH: u32 = 32;
 pub const LENGTH: usize = 65536;
 
 // The kinds of a field ("Kinds and payloads").
-#[derive(Drop)]
+#[derive(Clone, Copy)]
 pub enum Kind {
     Null,
     Object,
@@ -39,7 +39,7 @@ pub enum Kind {
 }
 
 // What an ID is: no kind's, or this kind's.
-#[derive(Drop)]
+#[derive(Clone, Copy)]
 pub enum Known {
     Unknown,
     Is(Kind),
@@ -47,7 +47,7 @@ pub enum Known {
 
 // Where a type byte stands: before the top field, a field of an object or an item of an array, or shared by all the fields
 // of a uniform object or all the items of a uniform array.
-#[derive(Drop)]
+#[derive(Clone, Copy)]
 pub enum Mark {
     OfTop,
     OfField,
@@ -58,7 +58,7 @@ pub enum Mark {
 
 // How a field stands: the top field; a field of an object; an item of an array; a field of a uniform object, an item of a uniform
 // array, of the kind that is shared there.
-#[derive(Drop)]
+#[derive(Clone, Copy)]
 pub enum Form {
     Top,
     Field,
@@ -68,7 +68,7 @@ pub enum Form {
 }
 
 // The stopping faults ("The mask").
-#[derive(Drop)]
+#[derive(Clone, Copy)]
 pub enum Stop {
     // Bytes end early, a size does not fit, a counted item is missing, bytes are left; a place or a step that lies outside.
     Early,
@@ -83,7 +83,7 @@ pub enum Stop {
 }
 
 // The faults that do not stop ("The mask"). Bytes after the top field are what is left in the end.
-#[derive(Drop)]
+#[derive(Clone, Copy)]
 pub enum Flaw {
     // Two equal names in one object.
     Twin,
@@ -102,7 +102,7 @@ pub enum Flaw {
 }
 
 // What a payload is made of.
-#[derive(Drop)]
+#[derive(Clone, Copy)]
 pub enum Class {
     Fixed(usize),
     Text,
@@ -113,7 +113,7 @@ pub enum Class {
 }
 
 // What stands behind a size.
-#[derive(Drop)]
+#[derive(Clone, Copy)]
 pub enum Inner {
     Bytes,
     ById,

@@ -62,7 +62,7 @@ pub fn kind_of(b: u8) -> Known
 }
 
 // A name, by where it stands.
-#[derive(Drop)]
+#[derive(Clone, Copy)]
 pub enum Name {
     Refused(Refusal),
     At { begin: usize, end: usize },
@@ -129,7 +129,7 @@ pub fn name_end(part: &[u8]) -> usize
 // ---- a frame up to its payload
 
 // Its kind, where its name begins, and where its payload starts, which is where the name ends.
-#[derive(Drop)]
+#[derive(Clone, Copy)]
 pub enum Frame {
     Refused(Refusal),
     Read {
@@ -189,7 +189,7 @@ fn heading(part: &[u8], kind: Kind, modes: Modes) -> Heading
 }
 
 // A leaf: where it ends; and its ID and how long its payload is as encoded.
-#[derive(Drop)]
+#[derive(Clone, Copy)]
 pub enum LeafFrame {
     Refused(Refusal),
     Read { end: usize, id: u8, size: usize },

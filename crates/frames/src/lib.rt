@@ -4,7 +4,7 @@ ghost use Rattle.std.specs.Prelude.{◌≡◌};
 ghost use Rattle.frames.specs.Writer.{refusal_number};
 
 // Why the writer refuses ("The write list").
-#[derive(Drop)]
+#[derive(Clone, Copy)]
 pub enum Refusal {
     ListEnds,
     BadFrame,
@@ -39,7 +39,7 @@ pub fn refusal_number(refusal: Refusal) -> u32
 }
 
 // The writer's answer: the encoding's length; or a refusal and its place.
-#[derive(Drop)]
+#[derive(Clone, Copy)]
 pub enum Written {
     Done(usize),
     Refused(Refusal, usize),

@@ -9,7 +9,7 @@ use faults::{Faults, Modes};
 use format::{Flaw, Form, Kind, Known, Mark, Stop};
 
 // What stands before a payload: the kind, the start of the name, and its end, where the payload starts.
-#[derive(Drop)]
+#[derive(Clone, Copy)]
 pub enum Front {
     Stop(Stop),
     Read {
@@ -21,14 +21,14 @@ pub enum Front {
 }
 
 // A type byte, read.
-#[derive(Drop)]
+#[derive(Clone, Copy)]
 pub enum Typed {
     Stop(Stop),
     Is(Kind),
 }
 
 // A size, read: where the bytes that it counts begin and end.
-#[derive(Drop)]
+#[derive(Clone, Copy)]
 pub enum Span {
     Stop(Stop),
     Part {

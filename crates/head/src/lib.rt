@@ -14,7 +14,7 @@ use leaves::Heading;
 
 // A field up to its contents: its kind, the start of its name, and where its payload starts and ends; and of a container how the fields or
 // items stand, how many items are counted, and where the contents begin (they end with the payload).
-#[derive(Drop)]
+#[derive(Clone, Copy)]
 pub enum Met {
     Stop(Stop),
     Leaf {

@@ -4,7 +4,7 @@ ghost use Rattle.std.specs.Prelude.{◌≡◌, length};
 ghost use Rattle.hexadecimal.specs.Typing.{told, start, afterwards, one_more, put, fed_second, fed_one, fed};
 
 // What a character is.
-#[derive(Drop)]
+#[derive(Clone, Copy)]
 pub enum Character {
     Digit(u8),
     LineFeed,
@@ -13,7 +13,7 @@ pub enum Character {
 
 // What was typed so far: how many whole bytes were formed; the first digit of the byte being formed, or none; and whether another
 // character was met, after which nothing changes any more.
-#[derive(Drop)]
+#[derive(Clone, Copy)]
 pub struct Typing {
     pub formed: u64,
     pub begun: bool,

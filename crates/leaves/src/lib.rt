@@ -11,7 +11,7 @@ use front::Span;
 
 // A payload up to its contents: where a leaf ends; or how the fields or items stand, how many items are counted, and where the contents
 // begin and end.
-#[derive(Drop)]
+#[derive(Clone, Copy)]
 pub enum Heading {
     Stop(Stop),
     Leaf {

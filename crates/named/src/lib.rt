@@ -17,7 +17,7 @@ use notes::Notes;
 use select::Source;
 
 // A field, and where its name begins and its payload starts.
-#[derive(Drop)]
+#[derive(Clone, Copy)]
 pub enum Named {
     Stop(Stop),
     Read {

@@ -8,7 +8,7 @@ use format::Form;
 use head::Met;
 
 // A field's name: where it begins and ends, and where the next field stands. Or no field is met.
-#[derive(Drop)]
+#[derive(Clone, Copy)]
 pub enum Name {
     Nothing,
     At {

@@ -7,7 +7,7 @@ ghost use Rattle.notes.specs.Notes.{rises, held_in, risen, noting, added, told};
 use select::Source;
 
 // Few: so many entries stand in front of the table, and they are all. Rising: each name came before the next, and this is the last. Many: nothing is known.
-#[derive(Drop)]
+#[derive(Clone, Copy)]
 pub enum Notes {
     Few(usize),
     Rising(u64),

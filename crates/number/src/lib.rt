@@ -9,7 +9,7 @@ ghost use Rattle.number.specs.Signed.{from_twos};
 
 // What stands at the front of a part: a VarUInt that the part cuts off, with how many of the bytes that its first byte calls for are missing, 1 for
 // an empty part; or a whole one, with its value, how many bytes it takes, and whether no shorter form holds the value.
-#[derive(Drop)]
+#[derive(Clone, Copy)]
 pub enum VarUInt {
     Cut {
         missing: usize,
@@ -21,19 +21,19 @@ pub enum VarUInt {
     },
 }
 
-#[derive(Drop)]
+#[derive(Clone, Copy)]
 pub enum Fixed32 {
     Cut,
     Whole(u32),
 }
 
-#[derive(Drop)]
+#[derive(Clone, Copy)]
 pub enum Fixed64 {
     Cut,
     Whole(u64),
 }
 
-#[derive(Drop)]
+#[derive(Clone, Copy)]
 pub enum Negative {
     Is(i64),
     OutOfRange,

@@ -13,7 +13,7 @@ use leaves::Heading;
 use places::{Checked, Place};
 
 // A place that was checked: a leaf's; or a container's, how its fields or items stand, and where its contents begin (they end with the place).
-#[derive(Drop)]
+#[derive(Clone, Copy)]
 pub enum Opened {
     Stop(Stop),
     Leaf,

@@ -59,6 +59,7 @@ in_cons e x t (there i) f g = g i
 
 pub in_before : (p e : ℕ) (t : List ℕ) → In e (before p t) → In e t × (begin_in e < p)
 unfolding before
+in_before p e [] i = elim i [ ]
 in_before p e (x ∷ t) i = go (ltb (begin_in x) p) refl i (in_before p e t)
   where
     go : (o : Bool) → ltb (begin_in x) p ≡ o → In e (cond o (x ∷ before p t) (before p t)) → (In e (before p t) → In e t × (begin_in e < p))
@@ -68,6 +69,7 @@ in_before p e (x ∷ t) i = go (ltb (begin_in x) p) refl i (in_before p e t)
 
 pub before_has : (p e : ℕ) (t : List ℕ) → In e t → begin_in e < p → In e (before p t)
 unfolding before
+before_has p e [] x'' l = elim x'' [ ]
 before_has p e (x ∷ t) here l = rw (lt-ltb (begin_in e) p l) here
 before_has p e (x ∷ t) (there i) l = go (ltb (begin_in x) p) (before_has p e t i l)
   where

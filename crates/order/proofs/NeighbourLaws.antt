@@ -19,6 +19,7 @@ use Rattle.entries.proofs.LeastLaws.{least_bound, least_over_law, least_pair, le
 
 -- in a sorted list all before the last are up to it
 pub sorted_last : (s xs : List ℕ) (y : ℕ) → Sorted s (xs ++ (y ∷ [])) → (z : ℕ) → In z xs → Upto s z y
+sorted_last s [] y w z x'' = elim x'' [ ]
 sorted_last s (x ∷ xs) y w z here = upto_is s x y (last_below x xs w.0)
   where
     last_below : (x : ℕ) (xs : List ℕ) → Below s x (xs ++ (y ∷ [])) → upto s x y ≡ true

@@ -5,7 +5,7 @@ ghost use Rattle.order.specs.Arranged.{arranged, afterwards};
 ghost use Rattle.order.specs.Passes.{Holds, Halves, Copies, Merges, Joins, Sorts, Tells, Keeps, Seconds, least_next, count_before};
 
 // How many entries are kept, and where the first begins that is not, since an entry before it has its name.
-#[derive(Drop)]
+#[derive(Clone, Copy)]
 pub enum Arranged {
     NoRoom,
     Done { count: usize, least: usize },

@@ -113,11 +113,13 @@ past_less s (x ∷ t) y l = omega (arith, past_less s t y (least_with s x y l), 
 
 past_later : (s t : List ℕ) (x y l : ℕ) → In x t → is_first s x y ≡ true → least_past s t y l ≤ begin_in y
 unfolding least_past
+past_later s [] x y l x4 h = elim x4 [ ]
 past_later s (z ∷ t) x y l here h = omega (arith, past_less s t y (least_with s x y l), with_later s x y l h)
 past_later s (z ∷ t) x y l (there i) h = past_later s t x y (least_with s z y l) i h
 
 past_earlier : (s t : List ℕ) (x y l : ℕ) → In x t → is_first s y x ≡ true → least_past s t y l ≤ begin_in x
 unfolding least_past
+past_earlier s [] x y l x4 h = elim x4 [ ]
 past_earlier s (z ∷ t) x y l here h = omega (arith, past_less s t y (least_with s x y l), with_earlier s x y l h)
 past_earlier s (z ∷ t) x y l (there i) h = past_earlier s t x y (least_with s z y l) i h
 

@@ -9,7 +9,7 @@ use format::{Form, Kind, Stop};
 use head::Met;
 
 // Where a field stands ("Places, views and values"): its kind, where its payload starts and ends, and its depth. A place may be forged.
-#[derive(Drop)]
+#[derive(Clone, Copy)]
 pub struct Place {
     pub kind: u8,
     pub start: usize,
@@ -57,7 +57,7 @@ impl Place {
 }
 
 // A field that is met: its place, and where its name begins (it ends where the payload starts).
-#[derive(Drop)]
+#[derive(Clone, Copy)]
 pub enum Field {
     Stop(Stop),
     Is(Place, usize),
@@ -105,28 +105,28 @@ pub fn placed(met: Met, depth: u32) -> Field
 }
 
 // The last place that a step gave, or none.
-#[derive(Drop)]
+#[derive(Clone, Copy)]
 pub enum After {
     Start,
     Last(Place),
 }
 
 // The check of a place.
-#[derive(Drop)]
+#[derive(Clone, Copy)]
 pub enum Checked {
     Good,
     Fault(Stop),
 }
 
 // The top place.
-#[derive(Drop)]
+#[derive(Clone, Copy)]
 pub enum Top {
     At(Place),
     Fault(Stop),
 }
 
 // What a step meets: a field, with its place and the start of its name, which ends where the payload starts.
-#[derive(Drop)]
+#[derive(Clone, Copy)]
 pub enum Step {
     Field(Place, usize),
     NoMore,
@@ -135,7 +135,7 @@ pub enum Step {
 }
 
 // What a lookup finds.
-#[derive(Drop)]
+#[derive(Clone, Copy)]
 pub enum Found {
     At(Place),
     NotThere,
@@ -144,14 +144,14 @@ pub enum Found {
 }
 
 // Where a view stands in the caller's payload.
-#[derive(Drop)]
+#[derive(Clone, Copy)]
 pub enum Part {
     At(usize, usize),
     Fault(Stop),
 }
 
 // A number as a double, by its 64 bits.
-#[derive(Drop)]
+#[derive(Clone, Copy)]
 pub enum Double {
     Bits(u64),
     OutOfRange,
@@ -160,7 +160,7 @@ pub enum Double {
 }
 
 // An integer as a signed number of 64 bits.
-#[derive(Drop)]
+#[derive(Clone, Copy)]
 pub enum Signed {
     Is(i64),
     OutOfRange,
@@ -169,7 +169,7 @@ pub enum Signed {
 }
 
 // An integer as an unsigned number of 64 bits.
-#[derive(Drop)]
+#[derive(Clone, Copy)]
 pub enum Unsigned {
     Is(u64),
     OutOfRange,
@@ -178,7 +178,7 @@ pub enum Unsigned {
 }
 
 // The ticks of a date or a span of time.
-#[derive(Drop)]
+#[derive(Clone, Copy)]
 pub enum Ticks {
     Are(i64),
     WrongKind,

@@ -9,7 +9,7 @@ use hexadecimal::Typing;
 use libc::{STDERR_FILENO, STDIN_FILENO, STDOUT_FILENO};
 
 // What was typed of all that was read; or a read failed.
-#[derive(Drop)]
+#[derive(Clone, Copy)]
 pub enum Reading {
     Typed(Typing),
     Failed,

@@ -14,21 +14,21 @@ use names::Name;
 use order::Arranged;
 
 // Where the names come from: the fields of an object; or the frames that describe one, with so many levels left, those that begin up to a place.
-#[derive(Drop)]
+#[derive(Clone, Copy)]
 pub enum Source {
     Fields(Form),
     Frames(u32, usize),
 }
 
 // The end of a range of names: there is none, or the name of an entry.
-#[derive(Drop)]
+#[derive(Clone, Copy)]
 pub enum Bound {
     Open,
     At(u64),
 }
 
 // A pass: up to which name it takes, how many entries stand in the table, and where the first twin begins so far.
-#[derive(Drop)]
+#[derive(Clone, Copy)]
 pub struct Pass {
     pub high: Bound,
     pub count: usize,
@@ -230,7 +230,7 @@ fn pass_all(part: &[u8], source: Source, table: &mut [u64]) -> usize
 // ---- all names at once
 
 // So many entries stand in front of the table, and they are all; or it is full of the first of them, and there are more.
-#[derive(Drop)]
+#[derive(Clone, Copy)]
 pub enum Filled {
     All(usize),
     More,

@@ -8,7 +8,7 @@ use frames::Refusal;
 
 // A field, measured: where the next frame stands; the ID and how long name and payload are as encoded; how many
 // containers there are now.
-#[derive(Drop)]
+#[derive(Clone, Copy)]
 pub enum Measured {
     Refused(Refusal, usize),
     Read {
@@ -20,7 +20,7 @@ pub enum Measured {
 }
 
 // What the list comes to: a refusal and its place; or the ID of the top field and the encoding's length.
-#[derive(Drop)]
+#[derive(Clone, Copy)]
 pub enum Settled {
     Refused(Refusal, usize),
     Ready { id: u8, length: usize },

@@ -19,6 +19,7 @@ in_at (x ∷ t) (suc i) l = there (in_at t i (omega arith))
 
 pub all_fit_law : (s u : List ℕ) (x : ℕ) → all_fit s u ≡ true → In x u → fits s x ≡ true
 unfolding all_fit
+all_fit_law s [] x h x4 = elim x4 [ ]
 all_fit_law s (y ∷ u) x h here = (and_both (fits s y) (all_fit s u) h).0
 all_fit_law s (y ∷ u) x h (there i) = all_fit_law s u x (and_both (fits s y) (all_fit s u) h).1 i
 

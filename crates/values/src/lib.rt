@@ -13,7 +13,7 @@ use open::Opened;
 use places::{Double, Place, Signed, Ticks, Unsigned};
 
 // What a place holds, to a call on values: the M of an integer, a float by its 64 bits, ticks.
-#[derive(Drop)]
+#[derive(Clone, Copy)]
 pub enum Value {
     Fault(Stop),
     Positive(u64),

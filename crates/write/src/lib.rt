@@ -15,7 +15,7 @@ use frames::Written;
 use settle::Settled;
 
 // Where the encoder stands: in the list, in the output, in the work numbers.
-#[derive(Drop)]
+#[derive(Clone, Copy)]
 pub struct Position {
     pub next: usize,
     pub to: usize,
@@ -23,7 +23,7 @@ pub struct Position {
 }
 
 // Behind a header: where the count stands, where the fields go, and whether these have type bytes.
-#[derive(Drop)]
+#[derive(Clone, Copy)]
 pub struct Opened {
     pub count: usize,
     pub to: usize,

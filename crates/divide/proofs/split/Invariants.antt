@@ -1,0 +1,12 @@
+use borrow.Author.Rules.{rules}
+use native.Mathlib.Omega.{arith}
+use Prim.Native.Nat.{◌-◌}
+use lib.ListN.{length}
+use Rattle.divide.proofs.SplitReturns.{counted_few, Splitting, split_starts, split_length, split_asks, split_within, split_on, split_ends}
+use Rattle.divide.proofs.split.Given as goal
+
+abbrev pub invariant-loop-i : goal.invariant-loop-i
+invariant-loop-i l = Splitting l.part l.at l.mid l.lows l.initial.table l.table l.k l.i
+
+abbrev pub decreases-loop-i : goal.decreases-loop-i
+decreases-loop-i l = length l.initial.table - l.i

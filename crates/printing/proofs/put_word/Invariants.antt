@@ -1,0 +1,15 @@
+-- `printing::put_word` meets its contract. The loop's invariant: the word's first `i` characters are put. Assumes nothing.
+use Prim.Native.Nat.{◌-◌, ◌≤◌}
+use native.Mathlib.Omega.{arith}
+use borrow.Author.Rules.{rules}
+use mathlib.Core.Path.{◌≡◌, refl, ◌∙◌}
+use lib.ListN.{length, take, length-set}
+use lib.Seq.{sets}
+use Rattle.printing.proofs.TextLaws.{word_on, word_end}
+use Rattle.printing.proofs.put_word.Given as goal
+
+abbrev pub invariant-loop-i : goal.invariant-loop-i
+invariant-loop-i l = (l.i ≤ length l.word) × (length l.text ≡ length l.initial.text) × (l.text ≡ sets l.initial.text l.at (take l.i l.word))
+
+abbrev pub decreases-loop-i : goal.decreases-loop-i
+decreases-loop-i l = length l.word - l.i
