@@ -160,10 +160,11 @@ def main(dry):
 
         for line in t.split("\n"):
             if p.endswith(".rt"):
-                # clauses and ghost items alone
-                if re.match(r"\s*(ghost use|requires|ensures|ghost)\b", line) or CLAUSE.search(line):
-                    line = TOKEN.sub(lambda m: turn(m, line), line)
-                out.append(line)
+                # clauses and ghost items: Rust's own names have neither form, and a dash is a minus outside an import
+                c, remark = line.split("//", 1) if "//" in line else (line, None)
+                ghost = re.match(r"\s*(ghost use|requires|ensures|ghost)\b", c)
+                c = TOKEN.sub(lambda m: turn(m, c) if ghost or "-" not in m.group(0) else m.group(0), c)
+                out.append(c if remark is None else c + "//" + remark)
                 continue
             c, remark = code(line)
             if re.match(r"\s*(pub )?use ", c):
@@ -200,8 +201,6 @@ def main(dry):
     for n, ps in sorted(left.items(), key=lambda x: -len(x[1])):
         print(f"left: {n} in {len(ps)} files, {sorted(ps)[0]}")
 
-
-CLAUSE = re.compile(r"^\s*(requires|ensures)\b")
 
 if __name__ == "__main__":
     main("--dry" in sys.argv[1:])

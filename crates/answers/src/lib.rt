@@ -29,7 +29,7 @@ pub struct Printed {
 fn answer_to(list: &[u8], out: &mut [u8], numbers: &mut [u32], text: &mut [u8]) -> Printed
     requires { (length out.old ≡ 65536) × (length numbers.old ≡ 16384) × (length text.old ≡ 131073) }
     ensures { afterwards result text.new out.new numbers.new
-        ≡ answeredOf (typed list.now) text.old out.old numbers.old }
+        ≡ answered_of (typed list.now) text.old out.old numbers.old }
 {
     match write::write(list, out, numbers) {
         Written::Done(size) => {
@@ -93,7 +93,7 @@ pub fn whole(
 ) -> Printed
     ensures text_after { text.new ≡ program input.now ++ drop result.length text.old }
     ensures numbers_after { afterwards result text.new out.new numbers.new
-        ≡ answeredOf (bytesTyped input.now) text.old out.old numbers.old }
+        ≡ answered_of (bytes_typed input.now) text.old out.old numbers.old }
     ensures list_after { list.new ≡ (fed input.now start list.old).list }
 {
     let typing = hexadecimal::feed(input, hexadecimal::nothing(), list);

@@ -107,7 +107,7 @@ pub extern "C" fn ajuqvane_step(
     answer: &mut [u64],
 ) -> u32
     ensures { afterwards result answer.new
-        ≡ told 5 (stepReply (step payload.now (place_of kind start end depth) (after_of some last))) answer.old }
+        ≡ told 5 (step_reply (step payload.now (place_of kind start end depth) (after_of some last))) answer.old }
 {
     place_calls::step(payload, kind, start, end, depth, some, last, answer)
 }
@@ -123,7 +123,7 @@ pub extern "C" fn ajuqvane_view(
     answer: &mut [u64],
 ) -> u32
     ensures { afterwards result answer.new
-        ≡ told 2 (partReply (part payload.now (place_of kind start end depth))) answer.old }
+        ≡ told 2 (part_reply (part payload.now (place_of kind start end depth))) answer.old }
 {
     place_calls::view(payload, kind, start, end, depth, answer)
 }
@@ -140,7 +140,7 @@ pub extern "C" fn ajuqvane_lookup<'a>(
     answer: &mut [u64],
 ) -> u32
     ensures { afterwards result answer.new
-        ≡ told 4 (foundReply (lookup payload.now (place_of kind start end depth) name.now)) answer.old }
+        ≡ told 4 (found_reply (lookup payload.now (place_of kind start end depth) name.now)) answer.old }
 {
     place_calls::lookup(payload, kind, start, end, depth, name, answer)
 }
@@ -156,7 +156,7 @@ pub extern "C" fn ajuqvane_double(
     answer: &mut [u64],
 ) -> u32
     ensures { afterwards result answer.new
-        ≡ told 1 (doubleReply (double payload.now (place_of kind start end depth))) answer.old }
+        ≡ told 1 (double_reply (double payload.now (place_of kind start end depth))) answer.old }
 {
     value_calls::double(payload, kind, start, end, depth, answer)
 }
@@ -172,7 +172,7 @@ pub extern "C" fn ajuqvane_signed(
     answer: &mut [u64],
 ) -> u32
     ensures { afterwards result answer.new
-        ≡ told 1 (signedReply (signed payload.now (place_of kind start end depth))) answer.old }
+        ≡ told 1 (signed_reply (signed payload.now (place_of kind start end depth))) answer.old }
 {
     value_calls::signed(payload, kind, start, end, depth, answer)
 }
@@ -188,7 +188,7 @@ pub extern "C" fn ajuqvane_unsigned(
     answer: &mut [u64],
 ) -> u32
     ensures { afterwards result answer.new
-        ≡ told 1 (unsignedReply (unsigned payload.now (place_of kind start end depth))) answer.old }
+        ≡ told 1 (unsigned_reply (unsigned payload.now (place_of kind start end depth))) answer.old }
 {
     value_calls::unsigned(payload, kind, start, end, depth, answer)
 }
@@ -204,7 +204,7 @@ pub extern "C" fn ajuqvane_ticks(
     answer: &mut [u64],
 ) -> u32
     ensures { afterwards result answer.new
-        ≡ told 1 (ticksReply (ticks payload.now (place_of kind start end depth))) answer.old }
+        ≡ told 1 (ticks_reply (ticks payload.now (place_of kind start end depth))) answer.old }
 {
     value_calls::ticks(payload, kind, start, end, depth, answer)
 }

@@ -12,6 +12,8 @@ pub none_in : (x : ℕ) → In x [] → ⊥
 none_in x = elim [ ]
 
 pub in_take : {x : ℕ} (n : ℕ) (t : List ℕ) → In x (take n t) → In x t
+in_take (suc n) [] x4 = elim x4 [ ]
+in_take zero t x'' = elim x'' [ ]
 in_take (suc n) (y ∷ t) here = here
 in_take (suc n) (y ∷ t) (there i) = there (in_take n t i)
 
@@ -23,10 +25,14 @@ in_drop (suc n) (y ∷ t) i = there (in_drop n t i)
 -- ---- what is said of places, and of entries
 
 pub front_all : (p : ℕ → Bool) (b : Bool) (k : ℕ) (t : List ℕ) → ((m : ℕ) → m < k → p (get_or t m 0) ≡ b) → (x : ℕ) → In x (take k t) → p x ≡ b
+front_all p b (suc k) [] f x x8 = elim x8 [ ]
+front_all p b zero t f x x4 = elim x4 [ ]
 front_all p b (suc k) (y ∷ t) f x here = f 0 (omega arith)
 front_all p b (suc k) (y ∷ t) f x (there i) = front_all p b k t (λ m l. f (suc m) (omega arith)) x i
 
 pub rest_all : (p : ℕ → Bool) (b : Bool) (k : ℕ) (t : List ℕ) → ((m : ℕ) → k ≤ m → m < length t → p (get_or t m 0) ≡ b) → (x : ℕ) → In x (drop k t) → p x ≡ b
+rest_all p b (suc k) [] f x i = elim i [ ]
+rest_all p b zero [] f x i = elim i [ ]
 rest_all p b zero (y ∷ t) f x here = f 0 (omega arith) (omega arith)
 rest_all p b zero (y ∷ t) f x (there i) = rest_all p b zero t (λ m k l. f (suc m) (omega arith) (omega arith)) x i
 rest_all p b (suc k) (y ∷ t) f x i = rest_all p b k t (λ m h l. f (suc m) (omega arith) (omega arith)) x i

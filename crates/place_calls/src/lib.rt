@@ -37,7 +37,7 @@ pub fn step(
     answer: &mut [u64],
 ) -> u32
     ensures { afterwards result answer.new
-        ≡ told 5 (stepReply (step payload.now (place_of kind start end depth) (after_of some last))) answer.old }
+        ≡ told 5 (step_reply (step payload.now (place_of kind start end depth) (after_of some last))) answer.old }
 {
     place_replies::step(
         read::step(
@@ -59,7 +59,7 @@ pub fn view(
     answer: &mut [u64],
 ) -> u32
     ensures { afterwards result answer.new
-        ≡ told 2 (partReply (part payload.now (place_of kind start end depth))) answer.old }
+        ≡ told 2 (part_reply (part payload.now (place_of kind start end depth))) answer.old }
 {
     place_replies::part(
         views::part(payload, Place::of(kind, start, end, depth)),
@@ -78,7 +78,7 @@ pub fn lookup<'a>(
     answer: &mut [u64],
 ) -> u32
     ensures { afterwards result answer.new
-        ≡ told 4 (foundReply (lookup payload.now (place_of kind start end depth) name.now)) answer.old }
+        ≡ told 4 (found_reply (lookup payload.now (place_of kind start end depth) name.now)) answer.old }
 {
     place_replies::found(
         read::lookup(payload, Place::of(kind, start, end, depth), name),

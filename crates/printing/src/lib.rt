@@ -65,7 +65,7 @@ fn put_bytes(part: &[u8], text: &mut [u8]) -> usize
 fn refused_in(number: u32, place: u64, text: &mut [u8]) -> usize
     requires { 35 ≤ length text.old }
     ensures { record { next = result; text = text.new }
-        ≡ put (wordRefused ++ decimal 2 number ++ wordAt ++ decimal 20 place ++ lineEnd) text.old 0 }
+        ≡ put (word_refused ++ decimal 2 number ++ word_at ++ decimal 20 place ++ line_end) text.old 0 }
 {
     let number_at = put_word(b"refused ", text, 0);
     let word_at = put_decimal(2, number as u64, text, number_at);
@@ -86,7 +86,7 @@ fn encoding_in(encoding: &[u8], text: &mut [u8]) -> usize
 // A refusal, where the text has room for the longest; else nothing is put.
 pub fn put_refused(number: u32, place: u64, text: &mut [u8]) -> usize
     ensures { record { next = result; text = text.new }
-        ≡ put_in 35 (wordRefused ++ decimal 2 number ++ wordAt ++ decimal 20 place ++ lineEnd) text.old }
+        ≡ put_in 35 (word_refused ++ decimal 2 number ++ word_at ++ decimal 20 place ++ line_end) text.old }
 {
     if text.len() < 35 {
         return 0;
@@ -97,7 +97,7 @@ pub fn put_refused(number: u32, place: u64, text: &mut [u8]) -> usize
 // An encoding, where the text has room for it; else nothing is put.
 pub fn put_encoding(encoding: &[u8], text: &mut [u8]) -> usize
     ensures { record { next = result; text = text.new }
-        ≡ put_in (2 * length encoding.now + 1) (concat hexByte encoding.now ++ lineEnd) text.old }
+        ≡ put_in (2 * length encoding.now + 1) (concat hex_byte encoding.now ++ line_end) text.old }
 {
     if text.len() == 0 {
         return 0;

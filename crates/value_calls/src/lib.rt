@@ -19,7 +19,7 @@ pub fn double(
     answer: &mut [u64],
 ) -> u32
     ensures { afterwards result answer.new
-        ≡ told 1 (doubleReply (double payload.now (place_of kind start end depth))) answer.old }
+        ≡ told 1 (double_reply (double payload.now (place_of kind start end depth))) answer.old }
 {
     replies::double(
         values::double(payload, Place::of(kind, start, end, depth)),
@@ -37,7 +37,7 @@ pub fn signed(
     answer: &mut [u64],
 ) -> u32
     ensures { afterwards result answer.new
-        ≡ told 1 (signedReply (signed payload.now (place_of kind start end depth))) answer.old }
+        ≡ told 1 (signed_reply (signed payload.now (place_of kind start end depth))) answer.old }
 {
     replies::signed(
         values::signed(payload, Place::of(kind, start, end, depth)),
@@ -55,7 +55,7 @@ pub fn unsigned(
     answer: &mut [u64],
 ) -> u32
     ensures { afterwards result answer.new
-        ≡ told 1 (unsignedReply (unsigned payload.now (place_of kind start end depth))) answer.old }
+        ≡ told 1 (unsigned_reply (unsigned payload.now (place_of kind start end depth))) answer.old }
 {
     replies::unsigned(
         values::unsigned(payload, Place::of(kind, start, end, depth)),
@@ -73,7 +73,7 @@ pub fn ticks(
     answer: &mut [u64],
 ) -> u32
     ensures { afterwards result answer.new
-        ≡ told 1 (ticksReply (ticks payload.now (place_of kind start end depth))) answer.old }
+        ≡ told 1 (ticks_reply (ticks payload.now (place_of kind start end depth))) answer.old }
 {
     replies::ticks(
         values::ticks(payload, Place::of(kind, start, end, depth)),

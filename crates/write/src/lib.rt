@@ -111,7 +111,7 @@ fn put_front(
 ) -> usize
     requires { (from ≤ start) × (start ≤ length list.now) × (to + (length (type_part named typed id) + (start - from)) ≤ length out.old) × (id < 32) }
     ensures { (result ≡ to + (length (type_part named typed id) + (start - from)))
-        × (out.new ≡ sets out.old to (typePart named typed id ++ between from start list.now)) }
+        × (out.new ≡ sets out.old to (type_part named typed id ++ between from start list.now)) }
 {
     let at = put_type(out, to, named, typed, id);
     copy(list, from, start, out, at);
