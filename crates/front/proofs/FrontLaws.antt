@@ -24,7 +24,7 @@ use Rattle.front.specs.declared.Front.{Front}
 use Rattle.front.specs.declared.Front.TheVariants as F
 use Rattle.format.specs.Kinds.{kind_at}
 use Rattle.format.specs.declared.Flaw.TheVariants.{Blank}
-use Rattle.format.specs.Parse.{got, bind, raise}
+use Rattle.format.specs.Parse.{Out, got, bind, raise}
 use Rattle.format.specs.Names.{is_empty, read_text, read_name}
 use Rattle.format.specs.Payload.{kind_found, read_type, front}
 use Rattle.faults.specs.Noted.{noted, flaw_if}
@@ -50,9 +50,12 @@ named_then k from m (P.Part a e h) = refl
 named_is : (k : Kind) (n from : ℕ) (m : Modes) (g : Faults) (t : List ℕ) → n ≡ from + length t
     → answer_of F.Stop (field_of n) m g (bind (read_name t) λ x q. got (x, k) [] q) ≡ named_of k from m (text_at m g t)
 named_is k n from m g t e =
-    answer_bind F.Stop (field_of n) m g (read_name t) _
-    ∙ (answer_bind F.Stop _ m g (read_text t) _
-    ∙ (text_is F.Stop m g t _ (λ a b h. F.Read k (from + a) (from + b) (noted m h (flaw_if (eqb a b) Blank))) one ∙ named_then k from m (text_at m g t)))
+    let kept : List ℕ → List ℕ → Out (List ℕ × Kind) = λ x q. got (x, k) [] q in
+    let name : List ℕ → List ℕ → Out (List ℕ) = λ x q. raise (is_empty x) Blank (got x [] q) in
+    let whole : List ℕ → Faults → List ℕ → Front = λ x h q. answer_of F.Stop (field_of n) m h (kept x q) in
+    answer_bind F.Stop (field_of n) m g (read_name t) kept
+    ∙ (answer_bind F.Stop whole m g (read_text t) name
+    ∙ (text_is F.Stop m g t (λ x h q. answer_of F.Stop whole m h (name x q)) (λ a b h. F.Read k (from + a) (from + b) (noted m h (flaw_if (eqb a b) Blank))) one ∙ named_then k from m (text_at m g t)))
   where
     one : (a b : ℕ) (h : Faults) → Inside a b t
         → answer_of F.Stop (λ x h q. answer_of F.Stop (field_of n) m h (got (x, k) [] q)) m h
@@ -88,8 +91,8 @@ plain_is : (m : Modes) (g : Faults) (mark : Mark) (s : List ℕ)
 unfolding typed_at
 plain_is m g mark [] = refl
 plain_is m g mark (b ∷ t) =
-    answer_bind F.Stop _ m g (read_type mark (b ∷ t)) _
-    ∙ type_is F.Stop _ m g mark b t (plain_of g) (λ k. refl) (λ k. rw (noted_none m g, one_less (length t)))
+    answer_bind F.Stop (field_of (length (b ∷ t))) m g (read_type mark (b ∷ t)) (λ k r. got ([], k) [] r)
+    ∙ type_is F.Stop (λ k e r. answer_of F.Stop (field_of (length (b ∷ t))) m e (got ([], k) [] r)) m g mark b t (plain_of g) (λ k. refl) (λ k. rw (noted_none m g, one_less (length t)))
 
 pub front_is : (f : Form) (m : Modes) (g : Faults) (s : List ℕ) → front_at f m g s ≡ front_by f m g s
 unfolding front_at front named_at typed_at
@@ -99,6 +102,8 @@ front_is (SharedItem k) m g s = let z : length s - length s ≡ 0 = omega arith 
 front_is (SharedField k) m g s = named_is k (length s) 0 m g s (omega arith) ∙ ap (λ t. named_of k 0 m (text_at m g t)) (sym (rest_all 0 s))
 front_is Field m g [] = refl
 front_is Field m g (b ∷ t) =
-    answer_bind F.Stop _ m g (read_type OfField (b ∷ t)) _
-    ∙ type_is F.Stop _ m g OfField b t (member_of m g (b ∷ t)) (λ k. refl)
+    let go : List ℕ × Kind → Faults → List ℕ → Front = field_of (suc (length t)) in
+    let name : Kind → List ℕ → Out (List ℕ × Kind) = λ k r. bind (read_name r) λ x q. got (x, k) [] q in
+    answer_bind F.Stop go m g (read_type OfField (b ∷ t)) name
+    ∙ type_is F.Stop (λ k h r. answer_of F.Stop go m h (name k r)) m g OfField b t (member_of m g (b ∷ t)) (λ k. refl)
     (λ k. named_is k (suc (length t)) 1 m g t (omega arith) ∙ ap (λ t. named_of k 1 m (text_at m g t)) (sym (rest_all 1 (b ∷ t))))

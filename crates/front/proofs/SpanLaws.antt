@@ -60,7 +60,8 @@ module _ {B : Type 0} (stop : Stop → B) (m : Modes) (g : Faults) (s : List ℕ
   answer_sized : {A : Type 0} (go : A → Faults → List ℕ → B) (p : List ℕ → Out A)
       → answer_of stop go m g (sized p s) ≡ span_then stop (λ a e h. answer_of stop go m h (whole (p (between a e s)) (drop e s))) (span_at m g s)
   unfolding span_at
-  answer_sized go p = answer_bind stop go m g (read_var_uint s) _ ∙ (answer_number stop _ m g s ∙ number_both
+  answer_sized go p = answer_bind stop go m g (read_var_uint s) _ ∙ (answer_number stop
+      (λ a e r. answer_of stop go m e (cond (ltb (length r) a) (fault Early) (whole (p (take a r)) (drop a r)))) m g s ∙ number_both
       (λ b o. b ≡ span_then stop (λ a e h. answer_of stop go m h (whole (p (between a e s)) (drop e s))) o) (stop Early) _ (P.Stop Early) _ s refl
       (λ v n x e. fits v n (noted m g (flaw_if (not x) Long)) (ltb (length s - n) v) refl))
     where
@@ -96,8 +97,9 @@ module _ {B : Type 0} (stop : Stop → B) (m : Modes) (g : Faults) (s : List ℕ
       → answer_of stop go m g (read_text s) ≡ span_then stop l (text_at m g s)
   unfolding text_at
   text_is go l f =
-      answer_bind stop go m g (sized rest s) _
-      ∙ (sized_is stop m g s _ rest (λ a e h. l a e (noted m h (flaw_if (not (is_text (between a e s))) NotUtf8))) one ∙ text_then l (span_at m g s))
+      let then : List ℕ → List ℕ → Out (List ℕ) = λ t r. raise (not (is_text t)) NotUtf8 (got t [] r) in
+      answer_bind stop go m g (sized rest s) then
+      ∙ (sized_is stop m g s (λ t h r. answer_of stop go m h (then t r)) rest (λ a e h. l a e (noted m h (flaw_if (not (is_text (between a e s))) NotUtf8))) one ∙ text_then l (span_at m g s))
     where
       one : (a e : ℕ) (h : Faults) → Inside a e s → answer_of stop go m (noted m h []) (raise (not (is_text (between a e s))) NotUtf8
           (got (between a e s) [] (drop e s))) ≡ l a e (noted m h (flaw_if (not (is_text (between a e s))) NotUtf8))
