@@ -3,13 +3,14 @@ use Prim.Native.Nat.{ℕ, suc, ◌+◌, ◌-◌, ◌≤◌}
 use native.Mathlib.Omega.{arith}
 use mathlib.Core.Path.{◌≡◌, refl, ◌∙◌}
 use mathlib.Core.Bool.{Bool, not}
-use mathlib.Core.List.{List}
+use mathlib.Core.List.{List, []}
 use lib.ListN.{length, drop, length-drop}
 use lib.IntN.{pos}
 use borrow.Author.Tests.{lt-ltb, le-ltb}
 use Rattle.number.specs.VarUInt.{var_uint}
 use Rattle.format.specs.declared.Kind.{Kind}
 use Rattle.format.specs.declared.Stop.{Stop}
+use Rattle.format.specs.declared.Form.TheVariants.{Item}
 use Rattle.format.specs.declared.Stop.TheVariants.{Early}
 use Rattle.faults.specs.declared.Modes.{Modes}
 use Rattle.faults.specs.declared.Faults.{Faults}
@@ -19,10 +20,10 @@ use Rattle.leaves.specs.declared.Heading.TheVariants as H
 use Rattle.format.specs.declared.Inner.{Inner}
 use Rattle.format.specs.declared.Inner.TheVariants as I
 use Rattle.format.specs.declared.Flaw.TheVariants.{Long}
-use Rattle.format.specs.Parse.{Out, bind, whole, read_var_uint, sized}
+use Rattle.format.specs.Parse.{got, Out, bind, whole, read_var_uint, sized}
 use Rattle.format.specs.Tree.{integer, binary, string}
 use Rattle.format.specs.Payload as read
-use Rattle.format.specs.Payload.{Head, payload, read_fields, read_items, read_shared_fields, read_shared_items, head, Shape, nothing, bytes, text, positive}
+use Rattle.format.specs.Payload.{Head, items_in, payload, read_fields, read_items, read_shared_fields, read_shared_items, head, Shape, nothing, bytes, text, positive}
 use Rattle.format.specs.Payload.{negative, wide, behind, shape_of, class_in, class_of, payload_in}
 use Rattle.format.proofs.SharedKind.{by_fields, by_items}
 use Rattle.faults.specs.Noted.{noted, flaw_if}
@@ -44,7 +45,7 @@ module _ (m : Modes) (g : Faults) (s : List ℕ) where
   behind_size_law : (c : Inner) (p : List ℕ → Out Head) → ((a e : ℕ) (h : Faults) → Inside a e s
       → answer_of H.Stop (head_of (length s)) m h (whole (p (between a e s)) (drop e s)) ≡ inside_of c m s (P.Part a e h))
       → answer_of H.Stop (head_of (length s)) m g (sized p s) ≡ inside_of c m s (span_at m g s)
-  behind_size_law c p f = sized_is H.Stop m g s _ p (λ a e h. inside_of c m s (P.Part a e h)) f ∙ inside_then m g s c _ (λ a e h. refl) (span_at m g s)
+  behind_size_law c p f = sized_is H.Stop m g s (head_of (length s)) p (λ a e h. inside_of c m s (P.Part a e h)) f ∙ inside_then m g s c _ (λ a e h. refl) (span_at m g s)
 
   fields_is : answer_of H.Stop (head_of (length s)) m g (sized read_fields s) ≡ inside_of I.Fields m s (span_at m g s)
   fields_is = behind_size_law I.Fields read_fields (λ a e h i. rw (noted_none m h, rest_at a e s i, part_at a e s i))
@@ -56,8 +57,15 @@ module _ (m : Modes) (g : Faults) (s : List ℕ) where
           ≡ count_of m h a e (var_uint (between a e s))
       one a e h i =
           answer_whole H.Stop (head_of (length s)) m h (read_items (between a e s)) (drop e s)
-          ∙ (answer_bind H.Stop _ m h (read_var_uint (between a e s)) _ ∙ (answer_number H.Stop _ m h (between a e s)
+          ∙ (answer_bind H.Stop go m h (read_var_uint (between a e s)) counted
+          ∙ (answer_number H.Stop (λ n f r. answer_of H.Stop go m f (counted n r)) m h (between a e s)
           ∙ number_same _ _ _ (between a e s) (λ v n x l. rw (noted_none m (noted m h (flaw_if (not x) Long)), rest_at a e s i, past_at a e s i n l))))
+        where
+          go : Head → Faults → List ℕ → Heading
+          go x f q = ended q (head_of (length s) x f (drop e s)) (H.Stop Early)
+
+          counted : ℕ → List ℕ → Out Head
+          counted n r = got (items_in Item n r) [] []
 
   shared_fields_is : answer_of H.Stop (head_of (length s)) m g (sized read_shared_fields s) ≡ inside_of I.SharedFields m s (span_at m g s)
   shared_fields_is = behind_size_law I.SharedFields read_shared_fields one
@@ -84,8 +92,9 @@ module _ (m : Modes) (g : Faults) (s : List ℕ) where
           ≡ shared_count_of m h a e (between a e s) (var_uint (between a e s))
       one a e h i =
           answer_whole H.Stop (head_of (length s)) m h (bind (read_var_uint (between a e s)) read_shared_items) (drop e s)
-          ∙ (answer_bind H.Stop _ m h (read_var_uint (between a e s)) _ ∙
-          (answer_number H.Stop _ m h (between a e s) ∙ number_same _ _ _ (between a e s) counted))
+          ∙ (answer_bind H.Stop go m h (read_var_uint (between a e s)) read_shared_items ∙
+          (answer_number H.Stop (λ n f b. answer_of H.Stop go m f (read_shared_items n b)) m h (between a e s)
+          ∙ number_same _ _ _ (between a e s) counted))
         where
           go : Head → Faults → List ℕ → Heading
           go x f q = ended q (head_of (length s) x f (drop e s)) (H.Stop Early)

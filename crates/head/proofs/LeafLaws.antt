@@ -24,7 +24,7 @@ use Rattle.format.specs.declared.Inner.TheVariants as I
 use Rattle.format.specs.declared.Flaw.TheVariants.{Long, Low, Wide}
 use Rattle.format.specs.Parse.{Out, fault, got, raise, make, whole, read_var_uint, fixed, sized, rest}
 use Rattle.format.specs.Names.{read_text}
-use Rattle.format.specs.Tree.{Leaf, integer, float}
+use Rattle.format.specs.Tree.{Leaf, integer, float, custom_by_id, custom_by_name}
 use Rattle.format.specs.Payload.{float64, read_negative, read_float64, Head, value, read_custom_by_id, read_custom_by_name}
 use Rattle.faults.specs.Noted.{noted, flaw_if}
 use Rattle.front.specs.Code.{answer_of}
@@ -34,7 +34,7 @@ use Rattle.front.specs.Pieces.{span_at, text_at}
 use Rattle.head.specs.Pieces.{inside_of}
 use Rattle.leaves.specs.Pieces.{fixed_at, positive_of, negative_of, double_at, leaf_of, id_of, name_of}
 use Rattle.faults.proofs.NotedLaws.{noted_none}
-use Rattle.front.proofs.AnswerLaws.{answer_raise, answer_bind, answer_make, answer_whole}
+use Rattle.front.proofs.AnswerLaws.{answer_raise, answer_bind, answer_make, answer_whole, ended}
 use Rattle.front.proofs.BetweenLaws.{Inside, rest_at}
 use Rattle.front.proofs.SpanLaws.{answer_number, sized_is, span_then, text_is}
 use Rattle.number.proofs.NumberThenLaws.{number_same}
@@ -67,7 +67,7 @@ module _ (m : Modes) (g : Faults) (s : List ℕ) where
   pub fixed_is : (n : ℕ) (made : List ℕ → Leaf) → answer_of H.Stop (head_of (length s)) m g (make value (make made (fixed n s))) ≡ fixed_at n g s
   unfolding fixed_at
   fixed_is n made = answer_make H.Stop (head_of (length s)) m g value (make made (fixed n s))
-      ∙ (answer_make H.Stop end_of m g made (fixed n s) ∙ answer_fixed n _ (H.Leaf n g) (λ l. rw (past n l)))
+      ∙ (answer_make H.Stop end_of m g made (fixed n s) ∙ answer_fixed n (λ x. end_of (made x)) (H.Leaf n g) (λ l. rw (past n l)))
 
   pub nothing_is : (v : Leaf) → answer_of H.Stop (head_of (length s)) m g (make value (got v [] s)) ≡ fixed_at 0 g s
   unfolding fixed_at
@@ -75,13 +75,17 @@ module _ (m : Modes) (g : Faults) (s : List ℕ) where
 
   pub positive_is : (made : ℕ → Leaf) → answer_of H.Stop (head_of (length s)) m g (make value (make made (read_var_uint s))) ≡ positive_of m g (var_uint s)
   positive_is made = answer_make H.Stop (head_of (length s)) m g value (make made (read_var_uint s))
-      ∙ (answer_make H.Stop end_of m g made (read_var_uint s) ∙ (answer_number H.Stop _ m g s ∙ number_same _ _ _ s (λ v n x l. rw (past n l))))
+      ∙ (answer_make H.Stop end_of m g made (read_var_uint s) ∙ (answer_number H.Stop (λ v. end_of (made v)) m g s ∙ number_same _ _ _ s (λ v n x l. rw (past n l))))
 
   pub negative_is : answer_of H.Stop (head_of (length s)) m g (make value (read_negative s)) ≡ negative_of m g (var_uint s)
   negative_is =
       answer_make H.Stop (head_of (length s)) m g value (read_negative s)
-      ∙ (answer_bind H.Stop end_of m g (read_var_uint s) _ ∙ (answer_number H.Stop _ m g s ∙ number_same _ _ _ s one))
+      ∙ (answer_bind H.Stop end_of m g (read_var_uint s) low ∙ (answer_number H.Stop (λ v h r. answer_of H.Stop end_of m h (low v r)) m g s
+      ∙ number_same _ _ _ s one))
     where
+      low : ℕ → List ℕ → Out Leaf
+      low v r = raise (not (ltb v (2 ^ 63))) Low (got (integer (negsuc v)) [] r)
+
       one : (v n : ℕ) (x : Bool) → n ≤ length s
           → answer_of H.Stop end_of m (noted m g (flaw_if (not x) Long)) (raise (not (ltb v (2 ^ 63))) Low (got (integer (negsuc v)) [] (drop n s)))
           ≡ H.Leaf n (noted m (noted m g (flaw_if (not x) Long)) (flaw_if (not (ltb v (2 ^ 63))) Low))
@@ -93,8 +97,11 @@ module _ (m : Modes) (g : Faults) (s : List ℕ) where
   pub double_is : answer_of H.Stop (head_of (length s)) m g (make value (read_float64 s)) ≡ double_at m g s
   double_is =
       answer_make H.Stop (head_of (length s)) m g value (read_float64 s)
-      ∙ (answer_bind H.Stop end_of m g (fixed 8 s) _ ∙ answer_fixed 8 _ (H.Leaf 8 (noted m g (flaw_if (holds (from_bytes (take 8 s))) Wide))) one)
+      ∙ (answer_bind H.Stop end_of m g (fixed 8 s) wide ∙ answer_fixed 8 (λ b h r. answer_of H.Stop end_of m h (wide b r)) (H.Leaf 8 (noted m g (flaw_if (holds (from_bytes (take 8 s))) Wide))) one)
     where
+      wide : List ℕ → List ℕ → Out Leaf
+      wide b r = raise (holds (from_bytes b)) Wide (got (float (float64 (from_bytes b))) [] r)
+
       one : 8 ≤ length s
           → answer_of H.Stop end_of m g (raise (holds (from_bytes (take 8 s))) Wide (got (float (float64 (from_bytes (take 8 s)))) [] (drop 8 s)))
           ≡ H.Leaf 8 (noted m g (flaw_if (holds (from_bytes (take 8 s))) Wide))
@@ -110,13 +117,13 @@ module _ (m : Modes) (g : Faults) (s : List ℕ) where
       → answer_of H.Stop (head_of (length s)) m g (make value (make made (sized rest s))) ≡ inside_of I.Bytes m s (span_at m g s)
   sized_leaf made =
       answer_make H.Stop (head_of (length s)) m g value (make made (sized rest s))
-      ∙ (answer_make H.Stop end_of m g made (sized rest s) ∙ (sized_is H.Stop m g s _ rest (λ a e h. H.Leaf e h)
+      ∙ (answer_make H.Stop end_of m g made (sized rest s) ∙ (sized_is H.Stop m g s (λ x. end_of (made x)) rest (λ a e h. H.Leaf e h)
       (λ a e h i. rw (noted_none m h, rest_at a e s i)) ∙ inside_then I.Bytes _ (λ a e h. refl) (span_at m g s)))
 
   pub text_leaf : (made : List ℕ → Leaf) → answer_of H.Stop (head_of (length s)) m g (make value (make made (read_text s))) ≡ leaf_of (text_at m g s)
   text_leaf made =
       answer_make H.Stop (head_of (length s)) m g value (make made (read_text s))
-      ∙ (answer_make H.Stop end_of m g made (read_text s) ∙ (text_is H.Stop m g s _ (λ a e h. H.Leaf e h) (λ a e h i. rw (rest_at a e s i)) ∙ at (text_at m g s)))
+      ∙ (answer_make H.Stop end_of m g made (read_text s) ∙ (text_is H.Stop m g s (λ x. end_of (made x)) (λ a e h. H.Leaf e h) (λ a e h i. rw (rest_at a e s i)) ∙ at (text_at m g s)))
     where
       at : (x : Span) → span_then H.Stop (λ a e h. H.Leaf e h) x ≡ leaf_of x
       at (P.Stop j) = refl
@@ -137,8 +144,15 @@ module _ (m : Modes) (g : Faults) (s : List ℕ) where
           ≡ id_of m h e (var_uint (between a e s))
       one a e h i =
           answer_whole H.Stop end_of m h (read_custom_by_id (between a e s)) (drop e s)
-          ∙ (answer_bind H.Stop _ m h (read_var_uint (between a e s)) _ ∙ (answer_number H.Stop _ m h (between a e s)
+          ∙ (answer_bind H.Stop go m h (read_var_uint (between a e s)) id
+          ∙ (answer_number H.Stop (λ n f r. answer_of H.Stop go m f (id n r)) m h (between a e s)
           ∙ number_same _ _ _ (between a e s) (λ v n x l. rw (noted_none m (noted m h (flaw_if (not x) Long)), rest_at a e s i))))
+        where
+          go : Leaf → Faults → List ℕ → Heading
+          go x f q = ended q (end_of x f (drop e s)) (H.Stop Early)
+
+          id : ℕ → List ℕ → Out Leaf
+          id n r = make (custom_by_id n) (rest r)
 
   pub by_name_is : answer_of H.Stop (head_of (length s)) m g (make value (sized read_custom_by_name s)) ≡ inside_of I.ByName m s (span_at m g s)
   by_name_is = custom_is I.ByName read_custom_by_name one
@@ -147,9 +161,15 @@ module _ (m : Modes) (g : Faults) (s : List ℕ) where
           ≡ name_of e (text_at m h (between a e s))
       one a e h i =
           answer_whole H.Stop end_of m h (read_custom_by_name (between a e s)) (drop e s)
-          ∙ (answer_bind H.Stop _ m h (read_text (between a e s)) _
-          ∙ (text_is H.Stop m h (between a e s) _ (λ b c f. H.Leaf e f) (λ b c f j. rw (noted_none m f, rest_at a e s i)) ∙ at (text_at m h (between a e s))))
+          ∙ (answer_bind H.Stop go m h (read_text (between a e s)) named
+          ∙ (text_is H.Stop m h (between a e s) (λ n f r. answer_of H.Stop go m f (named n r)) (λ b c f. H.Leaf e f) (λ b c f j. rw (noted_none m f, rest_at a e s i)) ∙ at (text_at m h (between a e s))))
         where
+          go : Leaf → Faults → List ℕ → Heading
+          go x f q = ended q (end_of x f (drop e s)) (H.Stop Early)
+
+          named : List ℕ → List ℕ → Out Leaf
+          named n r = make (custom_by_name n) (rest r)
+
           at : (x : Span) → span_then H.Stop (λ b c f. H.Leaf e f) x ≡ name_of e x
           at (P.Stop j) = refl
           at (P.Part b c f) = refl

@@ -1,0 +1,26 @@
+use borrow.Author.Rules.{rules}
+use Rattle.leaves.proofs.LeafReturns.{double_cut, double_whole}
+use Rattle.leaves.proofs.float64.Goals as goal
+
+ruleset laws = (double_cut, double_whole, rules)
+
+pub read64-requires : goal.read64-requires
+read64-requires c = search laws
+
+pub enum_told-1 : goal.enum_told-1
+enum_told-1 c = search laws
+
+pub enum_known-bits : goal.enum_known-bits
+enum_known-bits c = search laws
+
+pub float32_holds-requires : goal.float32_holds-requires
+float32_holds-requires c = search laws
+
+pub note-requires : goal.note-requires
+note-requires c = search laws
+
+pub returns-in-Cut : goal.returns-in-Cut
+returns-in-Cut c = search laws
+
+pub returns-in-Whole : goal.returns-in-Whole
+returns-in-Whole c = search laws
