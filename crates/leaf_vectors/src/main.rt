@@ -1,8 +1,9 @@
 #![tactic(auto)]
 // Runs the examples of Spec 2.7 both ways, and the floats of document 01. The stored output is written from the documents.
 use encode::Stored;
-use libc::STDOUT_FILENO;
 use number::VarUInt;
+
+const STDOUT_FILENO: i32 = 1;
 
 fn wide(b: u8) -> u64 {
     b as u64

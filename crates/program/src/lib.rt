@@ -6,7 +6,8 @@ ghost use Rattle.program.specs.Input.{Heard, Ran};
 
 use answers::{LIST, NUMBERS, OUTPUT, Printed, TEXT};
 use hexadecimal::Typing;
-use libc::{STDERR_FILENO, STDIN_FILENO, STDOUT_FILENO};
+use std::io::{Read, Write};
+use std::rt::{Stderr, Stdin, Stdout};
 
 // What was typed of all that was read; or a read failed.
 #[derive(Clone, Copy)]
@@ -17,46 +18,52 @@ pub enum Reading {
 
 // Reads all of the input, in parts that go through `chunk`. A proved loop has to end, so it counts down how many bytes there may be, from
 // 2^64 - 1: as many as can be counted.
-fn read_all(chunk: &mut [u8], list: &mut [u8]) -> Reading
+fn read_all(input: &mut Stdin, chunk: &mut [u8], list: &mut [u8]) -> Reading
     ensures { Heard result list.old list.new }
 {
     let mut typing = hexadecimal::nothing();
     let mut left = u64::MAX;
     while left > 0 {
-        let got = libc::read(STDIN_FILENO, chunk);
-        if got < 0 {
-            return Reading::Failed;
+        match input.read(chunk) {
+            Ok(n) => {
+                if n == 0 {
+                    return Reading::Typed(typing);
+                }
+                if left < n as u64 {
+                    return Reading::Failed;
+                }
+                typing = hexadecimal::feed(&chunk[..n], typing, list);
+                left -= n as u64;
+            }
+            Err(_) => return Reading::Failed,
         }
-        let n = io::count(got, chunk);
-        if n == 0 {
-            return Reading::Typed(typing);
-        }
-        if left < (n as u64) {
-            return Reading::Failed;
-        }
-        typing = hexadecimal::feed(&chunk[..n], typing, list);
-        left -= n as u64;
     }
     Reading::Failed
 }
 
+// Says on standard error why there is no answer. Where that fails too, the exit status is all that is left to say it.
+fn complain(error: &mut Stderr, reason: &[u8]) {
+    let _ = error.write_all(reason);
+}
+
 // Writes the answer. A refusal has the exit status 1, and an answer that cannot be written 2.
-fn print(printed: Printed, text: &[u8]) -> u32
+fn print(output: &mut Stdout, error: &mut Stderr, printed: Printed, text: &[u8]) -> u32
     requires { printed.length ≤ length text.now }
     ensures { (result ≡ cond printed.refused 1 0) ⊎ (result ≡ 2) }
 {
-    let length = printed.length;
-    if io::write_all(STDOUT_FILENO, &text[..length]) {
-        if printed.refused {
-            return 1;
+    match output.write_all(&text[..printed.length]) {
+        Ok(()) => { if printed.refused { 1 } else { 0 } }
+        Err(_) => {
+            complain(error, b"write_list: the answer cannot be written\n");
+            2
         }
-        return 0;
     }
-    io::write_all(STDERR_FILENO, b"write_list: the answer cannot be written\n");
-    2
 }
 
 fn run(
+    input: &mut Stdin,
+    output: &mut Stdout,
+    error: &mut Stderr,
     list: &mut [u8; LIST],
     out: &mut [u8; OUTPUT],
     numbers: &mut [u32; NUMBERS],
@@ -64,16 +71,13 @@ fn run(
 ) -> u32
     ensures { Ran result text.new ⊎ (result ≡ 2) }
 {
-    match read_all(text, list) {
+    match read_all(input, text, list) {
         Reading::Typed(typing) => {
             let printed = answers::answer(typing, list, out, numbers, text);
-            print(printed, text)
+            print(output, error, printed, text)
         }
         Reading::Failed => {
-            io::write_all(
-                STDERR_FILENO,
-                b"write_list: standard input cannot be read\n",
-            );
+            complain(error, b"write_list: standard input cannot be read\n");
             2
         }
     }
@@ -81,13 +85,20 @@ fn run(
 
 // The whole program; the answer is its exit status. What it lends, some 330,000 bytes, is on the stack, with some 87,000 of the writer's own. The
 // input is read through the text, which nothing stands in yet.
-#[unsafe(no_mangle)]
-pub extern "C" fn ajuqvane_write_list() -> u32
+pub fn ajuqvane_write_list(mut input: Stdin, mut output: Stdout, mut error: Stderr) -> u32
     ensures { result ≤ 2 }
 {
     let mut list = [0u8; LIST];
     let mut out = [0u8; OUTPUT];
     let mut numbers = [0u32; NUMBERS];
     let mut text = [0u8; TEXT];
-    run(&mut list, &mut out, &mut numbers, &mut text)
+    run(
+        &mut input,
+        &mut output,
+        &mut error,
+        &mut list,
+        &mut out,
+        &mut numbers,
+        &mut text,
+    )
 }

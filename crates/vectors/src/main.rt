@@ -1,7 +1,8 @@
 #![tactic(auto)]
 // Runs the payloads that document 01 lists ("Payloads beside their masks"), in its order. Of the nested case, document 02 has another spelling (M-102): it is
 // run first, and then that of 01, which is refused. The stored output is written from the documents.
-use libc::STDOUT_FILENO;
+
+const STDOUT_FILENO: i32 = 1;
 
 const NONE: u32 = 0;
 

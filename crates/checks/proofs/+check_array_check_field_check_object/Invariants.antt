@@ -1,0 +1,29 @@
+use Prim.Native.Nat.{ℕ, ◌+◌, ◌-◌, ◌*◌, ◌<◌}
+use native.Mathlib.Omega.{arith}
+use borrow.Author.Rules.{rules}
+use Rattle.checks.proofs.FieldCases.{field_deep, field_stop, field_leaf, field_fields, field_items, fields_in_law, items_in_law}
+use Rattle.checks.proofs.LoopLaws.{Fields, fields_start, fields_out, fields_fault, fields_step, fields_nameless}
+use Rattle.checks.proofs.LoopLaws.{Items, items_start, items_fault, items_step, items_left, items_end}
+use Rattle.checks.proofs.SizedItems.{sized_items_law}
+use Rattle.checks.proofs.+check_array_check_field_check_object.Given as goal
+
+abbrev pub decreases-check_array : goal.decreases-check_array
+decreases-check_array l = 2 * l.left + 1
+
+abbrev pub decreases-check_field : goal.decreases-check_field
+decreases-check_field l = 2 * l.left
+
+abbrev pub decreases-check_object : goal.decreases-check_object
+decreases-check_object l = 2 * l.left + 1
+
+abbrev pub invariant-check_array-loop-room : goal.invariant-check_array-loop-room
+invariant-check_array-loop-room l = Items l.form l.count l.modes l.left l.initial.met l.part l.at l.room l.met l.run
+
+abbrev pub decreases-check_array-loop-room : goal.decreases-check_array-loop-room
+decreases-check_array-loop-room l = l.room
+
+abbrev pub invariant-check_object-loop-at : goal.invariant-check_object-loop-at
+invariant-check_object-loop-at l = Fields l.form l.modes l.left l.initial.met l.part l.at l.room l.met l.run
+
+abbrev pub decreases-check_object-loop-at : goal.decreases-check_object-loop-at
+decreases-check_object-loop-at l = l.room

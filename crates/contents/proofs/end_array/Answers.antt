@@ -1,0 +1,17 @@
+use borrow.Author.Rules.{rules}
+use Rattle.contents.proofs.EndLaws.{array_ended}
+use Rattle.contents.proofs.end_array.Goals as goal
+
+ruleset laws = (array_ended, rules)
+
+pub is_typed-requires : goal.is_typed-requires
+is_typed-requires c = search laws
+
+pub is_uniform-requires : goal.is_uniform-requires
+is_uniform-requires c = search laws
+
+pub note-requires : goal.note-requires
+note-requires c = search laws
+
+pub returns : goal.returns
+returns c = search laws
