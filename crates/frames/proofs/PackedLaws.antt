@@ -18,10 +18,8 @@ use Rattle.run.specs.Run.{shared, uniform}
 use Rattle.frames.proofs.Flaws.{untrue}
 use Rattle.format.specs.Encoding.{concat, sizes_of}
 use Rattle.format.specs.Tree.{atom, Tree, array, object}
-use Rattle.frames.proofs.Flaws.{untrue}
 use Rattle.format.proofs.KindLaws.{id_range}
 use Rattle.frames.specs.Container.{ids, packed, packs_of, uniform_in, count_part, size_in, width_in, shared_in}
-use Rattle.run.specs.Run.{shared, uniform}
 
 module _ {A : Type 0} (kind : A → Kind) where
   shared_lt : (named : Bool) (xs : List (List ℕ × A)) → uniform named (shared (ids kind xs)) ≡ true → (1 ≤ shared (ids kind xs)) × (shared (ids kind xs) < 32)

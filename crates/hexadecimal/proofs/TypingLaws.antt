@@ -17,9 +17,9 @@ use Rattle.hexadecimal.specs.Typing.{told, Fed, afterwards, one_more, put, fed_s
 -- ---- a character
 
 module _ (c : ℕ) where
-  pub line_feed : c ≡ 0x0a → C.LineFeed ≡ told c
+  pub line_feed_law : c ≡ 0x0a → C.LineFeed ≡ told c
   unfolding told
-  line_feed h = rw h
+  line_feed_law h = rw h
 
   pub before_digits : (c ≡ 0x0a → ⊥) → c < 0x30 → C.Another ≡ told c
   unfolding told

@@ -1,9 +1,8 @@
 use borrow.Author.Rules.{rules}
-use Rattle.hexadecimal.proofs.TypingLaws.{line_feed, before_digits, decimal_digit, before_letters, letter_digit, past_letters}
-use borrow.Author.Rules.{rules}
+use Rattle.hexadecimal.proofs.TypingLaws.{line_feed_law, before_digits, decimal_digit, before_letters, letter_digit, past_letters}
 use Rattle.hexadecimal.proofs.character_of.Goals as goal
 
-ruleset laws = (line_feed, before_digits, decimal_digit, before_letters, letter_digit, past_letters, rules)
+ruleset laws = (line_feed_law, before_digits, decimal_digit, before_letters, letter_digit, past_letters, rules)
 
 pub returns-then-c-eq10 : goal.returns-then-c-eq10
 returns-then-c-eq10 c = search laws

@@ -1,6 +1,5 @@
 use borrow.Author.Rules.{rules}
 use Rattle.hexadecimal.proofs.TypingLaws.{more_below, more_top}
-use borrow.Author.Rules.{rules}
 use Rattle.hexadecimal.proofs.more.Goals as goal
 
 ruleset laws = (more_below, more_top, rules)

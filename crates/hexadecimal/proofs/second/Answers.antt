@@ -1,6 +1,5 @@
 use borrow.Author.Rules.{rules}
 use Rattle.hexadecimal.proofs.TypingLaws.{second_is}
-use borrow.Author.Rules.{rules}
 use Rattle.hexadecimal.proofs.second.Goals as goal
 
 ruleset laws = (second_is, rules)

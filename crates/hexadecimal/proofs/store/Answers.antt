@@ -1,6 +1,5 @@
 use borrow.Author.Rules.{rules}
 use Rattle.hexadecimal.proofs.TypingLaws.{put_past, put_inside}
-use borrow.Author.Rules.{rules}
 use Rattle.hexadecimal.proofs.store.Goals as goal
 
 ruleset laws = (put_past, put_inside, rules)

@@ -1,6 +1,5 @@
 use borrow.Author.Rules.{rules}
 use Rattle.open.proofs.FillLaws.{open_stop, leaf_early, leaf_whole, fields_early, fields_whole, items_early, items_whole}
-use borrow.Author.Rules.{rules}
 use native.Mathlib.Omega.{arith}
 use Rattle.open.proofs.FillLaws.{fields_begin, items_begin}
 use Rattle.open.proofs.open_in.Goals as goal

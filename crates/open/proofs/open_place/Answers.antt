@@ -1,5 +1,4 @@
 use borrow.Author.Rules.{rules}
-use borrow.Author.Rules.{rules}
 use Rattle.open.proofs.OpenLaws.{place_long, place_crossed, place_outside, place_shallow, place_deep, place_unknown, place_known}
 use Rattle.open.proofs.open_place.Goals as goal
 

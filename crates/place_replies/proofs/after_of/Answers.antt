@@ -1,6 +1,5 @@
 use borrow.Author.Rules.{rules}
 use Rattle.place_replies.proofs.AfterLaws.{after_none, after_some}
-use borrow.Author.Rules.{rules}
 use Rattle.place_replies.proofs.after_of.Goals as goal
 
 ruleset laws = (after_none, after_some, rules)

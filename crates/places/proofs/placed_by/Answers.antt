@@ -1,5 +1,4 @@
 use borrow.Author.Rules.{rules}
-use borrow.Author.Rules.{rules}
 use Rattle.places.proofs.PlacedLaws.{placed_is}
 use Rattle.places.proofs.placed_by.Goals as goal
 

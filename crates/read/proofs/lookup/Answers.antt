@@ -1,5 +1,4 @@
 use borrow.Author.Rules.{rules}
-use borrow.Author.Rules.{rules}
 use mathlib.Core.Path.{◌∙◌}
 use Rattle.open.proofs.OpenLaws.{stands_fields}
 use Rattle.read.proofs.LookLaws.{look_is}

@@ -1,6 +1,5 @@
 use borrow.Author.Rules.{rules}
 use Rattle.read.proofs.StepLaws.{step_before, step_past, step_end, step_deep, step_stop, step_field}
-use borrow.Author.Rules.{rules}
 use Rattle.read.proofs.step_in.Goals as goal
 
 ruleset laws = (step_before, step_past, step_end, step_deep, step_stop, step_field, rules)

@@ -1,6 +1,5 @@
 use borrow.Author.Rules.{rules}
 use Rattle.values.proofs.IntegerLaws.{integer_cut, integer_negative, integer_positive}
-use borrow.Author.Rules.{rules}
 use Rattle.values.proofs.integer_in.Goals as goal
 
 ruleset laws = (integer_cut, integer_negative, integer_positive, rules)

@@ -1,5 +1,4 @@
 use borrow.Author.Rules.{rules}
-use borrow.Author.Rules.{rules}
 use mathlib.Core.Path.{◌∙◌}
 use Rattle.values.proofs.ValueLaws.{signed_is}
 use Rattle.values.proofs.signed.Goals as goal

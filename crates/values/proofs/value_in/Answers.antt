@@ -1,6 +1,5 @@
 use borrow.Author.Rules.{rules}
 use Rattle.values.proofs.ValueLaws.{value_positive, value_negative, value_float32, value_float64, value_date, value_span, value_other}
-use borrow.Author.Rules.{rules}
 use Rattle.values.proofs.value_in.Goals as goal
 
 ruleset laws = (value_positive, value_negative, value_float32, value_float64, value_date, value_span, value_other, rules)

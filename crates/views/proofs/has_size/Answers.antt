@@ -1,6 +1,5 @@
 use borrow.Author.Rules.{rules}
 use Rattle.views.proofs.ViewLaws.{size_is}
-use borrow.Author.Rules.{rules}
 use Rattle.views.proofs.has_size.Goals as goal
 
 ruleset laws = (size_is, rules)

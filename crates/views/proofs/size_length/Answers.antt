@@ -1,6 +1,5 @@
 use borrow.Author.Rules.{rules}
 use Rattle.views.proofs.ViewLaws.{size_none, size_cut, size_whole}
-use borrow.Author.Rules.{rules}
 use Rattle.views.proofs.size_length.Goals as goal
 
 ruleset laws = (size_none, size_cut, size_whole, rules)

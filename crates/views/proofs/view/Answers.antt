@@ -1,5 +1,4 @@
 use borrow.Author.Rules.{rules}
-use borrow.Author.Rules.{rules}
 use native.Mathlib.Omega.{arith}
 use Rattle.views.proofs.ViewLaws.{view_is, view_none, view_lies}
 use Rattle.views.proofs.view.Goals as goal
