@@ -17,86 +17,70 @@ ghost use Rattle.sending.specs.Sent.{sent};
 
 // 0: a whole VarUInt stands at the front, and `answer` starts with its value, the bytes it takes, and 1 if it is minimal. 1: it is cut off, and `answer`
 // starts with how many bytes are missing.
-#[unsafe(no_mangle)]
-pub extern "C" fn ajuqvane_varuint(part: &[u8], answer: &mut [u64]) -> u32
+pub fn ajuqvane_varuint(part: &[u8], answer: &mut [u64]) -> u32
     ensures { afterwards result answer.new ≡ varuint part.now answer.old }
 {
     basic_calls::varuint(part, answer)
 }
 
 // The part is text.
-#[unsafe(no_mangle)]
-pub extern "C" fn ajuqvane_is_text(part: &[u8]) -> u32
+pub fn ajuqvane_is_text(part: &[u8]) -> u32
     ensures { result ≡ truth (is_text part.now) }
 {
     basic_calls::is_text(part)
 }
 
 // The parts are equal, byte by byte.
-#[unsafe(no_mangle)]
-pub extern "C" fn ajuqvane_are_equal<'a>(a: &'a [u8], b: &'a [u8]) -> u32
+pub fn ajuqvane_are_equal<'a>(a: &'a [u8], b: &'a [u8]) -> u32
     ensures { result ≡ truth (equal a.now b.now) }
 {
     basic_calls::are_equal(a, b)
 }
 
 // Float32 holds the Float64 of these bits.
-#[unsafe(no_mangle)]
-pub extern "C" fn ajuqvane_float32_holds(bits: u64) -> u32
+pub fn ajuqvane_float32_holds(bits: u64) -> u32
     ensures { result ≡ truth (holds bits) }
 {
     basic_calls::float32_holds(bits)
 }
 
 // The bits of the Float64 that a Float32 of these bits widens to.
-#[unsafe(no_mangle)]
-pub extern "C" fn ajuqvane_widen(bits: u32) -> u64
+pub fn ajuqvane_widen(bits: u32) -> u64
     ensures { result ≡ widen bits }
 {
     float::widen(bits)
 }
 
 // The mask.
-#[unsafe(no_mangle)]
-pub extern "C" fn ajuqvane_validate(modes: u32, payload: &[u8]) -> u32
+pub fn ajuqvane_validate(modes: u32, payload: &[u8]) -> u32
     ensures { result ≡ mask modes payload.now }
 {
     validate::validate(modes, payload)
 }
 
 // The mask, with a table that is lent; it holds zeros afterwards.
-#[unsafe(no_mangle)]
-pub extern "C" fn ajuqvane_validate_with(modes: u32, payload: &[u8], table: &mut [u64]) -> u32
+pub fn ajuqvane_validate_with(modes: u32, payload: &[u8], table: &mut [u64]) -> u32
     ensures { record { answer = result; table = table.new } ≡ mask_with modes payload.now table.old }
 {
     validate::validate_with(modes, payload, table)
 }
 
 // The check of a place.
-#[unsafe(no_mangle)]
-pub extern "C" fn ajuqvane_check(
-    payload: &[u8],
-    kind: u8,
-    start: usize,
-    end: usize,
-    depth: u32,
-) -> u32
+pub fn ajuqvane_check(payload: &[u8], kind: u8, start: usize, end: usize, depth: u32) -> u32
     ensures { result ≡ (checked_reply (checked payload.now (place_of kind start end depth))).code }
 {
     place_calls::check(payload, kind, start, end, depth)
 }
 
 // The top place: its kind, start, end and depth.
-#[unsafe(no_mangle)]
-pub extern "C" fn ajuqvane_top(payload: &[u8], answer: &mut [u64]) -> u32
+pub fn ajuqvane_top(payload: &[u8], answer: &mut [u64]) -> u32
     ensures { afterwards result answer.new ≡ told 4 (top_reply (top payload.now)) answer.old }
 {
     place_calls::top(payload, answer)
 }
 
 // A step: the field's kind, start, end and depth, and where its name begins: the first field with some 0, else the one behind the end last.
-#[unsafe(no_mangle)]
-pub extern "C" fn ajuqvane_step(
+pub fn ajuqvane_step(
     payload: &[u8],
     kind: u8,
     start: usize,
@@ -113,8 +97,7 @@ pub extern "C" fn ajuqvane_step(
 }
 
 // Where a place's view begins and ends.
-#[unsafe(no_mangle)]
-pub extern "C" fn ajuqvane_view(
+pub fn ajuqvane_view(
     payload: &[u8],
     kind: u8,
     start: usize,
@@ -129,8 +112,7 @@ pub extern "C" fn ajuqvane_view(
 }
 
 // The first field of an object whose name is byte-equal to this one: its kind, start, end and depth.
-#[unsafe(no_mangle)]
-pub extern "C" fn ajuqvane_lookup<'a>(
+pub fn ajuqvane_lookup<'a>(
     payload: &'a [u8],
     kind: u8,
     start: usize,
@@ -146,8 +128,7 @@ pub extern "C" fn ajuqvane_lookup<'a>(
 }
 
 // A number as a double: its 64 bits.
-#[unsafe(no_mangle)]
-pub extern "C" fn ajuqvane_double(
+pub fn ajuqvane_double(
     payload: &[u8],
     kind: u8,
     start: usize,
@@ -162,8 +143,7 @@ pub extern "C" fn ajuqvane_double(
 }
 
 // An integer as a signed number, in two's complement.
-#[unsafe(no_mangle)]
-pub extern "C" fn ajuqvane_signed(
+pub fn ajuqvane_signed(
     payload: &[u8],
     kind: u8,
     start: usize,
@@ -178,8 +158,7 @@ pub extern "C" fn ajuqvane_signed(
 }
 
 // An integer as an unsigned number.
-#[unsafe(no_mangle)]
-pub extern "C" fn ajuqvane_unsigned(
+pub fn ajuqvane_unsigned(
     payload: &[u8],
     kind: u8,
     start: usize,
@@ -194,8 +173,7 @@ pub extern "C" fn ajuqvane_unsigned(
 }
 
 // The ticks of a date or a span of time, in two's complement.
-#[unsafe(no_mangle)]
-pub extern "C" fn ajuqvane_ticks(
+pub fn ajuqvane_ticks(
     payload: &[u8],
     kind: u8,
     start: usize,
@@ -210,13 +188,7 @@ pub extern "C" fn ajuqvane_ticks(
 }
 
 // The writer. 0: the answer is the encoding's length. 1 to 11: refused, and the answer is the place. With no number lent it is refused too.
-#[unsafe(no_mangle)]
-pub extern "C" fn ajuqvane_write(
-    list: &[u8],
-    out: &mut [u8],
-    work: &mut [u32],
-    answer: &mut [u64],
-) -> u32
+pub fn ajuqvane_write(list: &[u8], out: &mut [u8], work: &mut [u32], answer: &mut [u64]) -> u32
     ensures { record { code = result; held = answer.new; output = out.new; work = work.new }
         ≡ sent list.now out.old work.old answer.old }
 {

@@ -64,6 +64,7 @@ rises_last s (u ∷ us) y z = from_last s u us y z
 -- the first comes before all behind it
 from_less : (s : List ℕ) (a : ℕ) (t : List ℕ) → rises_from s a t ≡ true → (x : ℕ) → In x t → order (bytes_in s a) (bytes_in s x) ≡ O.Less
 unfolding rises_from
+from_less s a [] h x x4 = elim x4 [ ]
 from_less s a (b ∷ t) h x here = ascends_is s a b (and_both (ascends s a b) (rises_from s b t) h).0
 from_less s a (b ∷ t) h x (there i) =
     let w = and_both (ascends s a b) (rises_from s b t) h in
@@ -88,6 +89,7 @@ not_less s x y e h =
 
 -- so no two of them are equal
 rises_apart : (s es : List ℕ) → rises s es ≡ true → (x e : ℕ) → In x es → In e es → name_in s x ≡ name_in s e → x ≡ e
+rises_apart s [] h x e x6 _ n = elim x6 [ ]
 rises_apart s (a ∷ es) h x e here here n = refl
 rises_apart s (a ∷ es) h x e here (there j) n = not_less s x e n (from_less s a es h e j)
 rises_apart s (a ∷ es) h x e (there i) here n = not_less s e x (sym n) (from_less s a es h x i)

@@ -24,6 +24,7 @@ use Rattle.select.proofs.TwinLaws.{Ascends, ascends_less, ascends_in}
 -- ---- a front part
 
 ascends_apart : (m : ℕ) (xs ys : List ℕ) → Ascends m (xs ++ ys) → (x y : ℕ) → In x xs → In y ys → begin_in x < begin_in y
+ascends_apart m [] ys a x y x5 j = elim x5 [ ]
 ascends_apart m (z ∷ xs) ys a x y here j = let w = ascends_in (suc (begin_in x)) a.1 (in_right xs ys j) in omega arith
 ascends_apart m (z ∷ xs) ys a x y (there i) j = ascends_apart (suc (begin_in z)) xs ys a.1 x y i j
 

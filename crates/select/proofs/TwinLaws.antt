@@ -28,7 +28,7 @@ ascends_less m n (e ∷ es) l h = (omega (arith, h.0), h.1)
 
 pub ascends_in : (m : ℕ) {e : ℕ} {es : List ℕ} → Ascends m es → In e es → m ≤ begin_in e
 ascends_in m h here = h.0
-ascends_in m h (there i) = let w = ascends_in _ h.1 i in omega (arith, h.0)
+ascends_in m h (there {x = x} {y = y} {xs = xs} i) = let w = ascends_in (suc (begin_in y)) h.1 i in omega (arith, h.0)
 
 -- names of one key have one name where their bytes are equal
 abbrev pub Keyed : List ℕ → List ℕ → Type 0

@@ -98,6 +98,7 @@ pub record Good (s : List ℕ) (x : ℕ) : Type 0 where
 
 module _ (d : ℕ) (s : List ℕ) (short : length s < 16777216) where
   pub chain_good : {a z : ℕ} {gs : List (List ℕ × List ℕ)} {es : List ℕ} → a ≤ length s → Chain d s a gs es z → (x : ℕ) → In x es → Good s x × (a < begin_in x)
+  chain_good l (stop {a = a}) x x17 = elim x17 [ ]
   chain_good {a = a} l (link {b = b} {e = e} {n = n} h c) x here =
       let f = found_at d a s l b e n h in
       let i : e ≤ length s = omega (arith, f.before, f.inside) in

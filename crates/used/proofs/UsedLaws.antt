@@ -71,6 +71,7 @@ module _ (s : List ℕ) (n : List ℕ) where
       go false q h k = k h
 
   in_any : (us : List ℕ) (x : ℕ) → In x us → equal n (bytes_in s x) ≡ true → any (equal n) (map (λ x. bytes_in s x) us) ≡ true
+  in_any [] x x4 h = elim x4 [ ]
   in_any (u ∷ us) x here h = rw h
   in_any (u ∷ us) x (there i) h = go (equal n (bytes_in s u)) (in_any us x i h)
     where

@@ -1,0 +1,12 @@
+use borrow.Author.Rules.{rules}
+use Prim.Native.Nat.{◌-◌, ◌≤◌}
+use native.Mathlib.Omega.{arith}
+use lib.ListN.{length}
+use Rattle.select.proofs.SearchReturns.{Gathering, gather_starts, gather_few, gather_ends, gather_stops, gather_on, gather_less}
+use Rattle.select.proofs.gather.Given as goal
+
+abbrev pub invariant-loop-at : goal.invariant-loop-at
+invariant-loop-at l = Gathering l.source l.part l.low l.initial.table l.table l.at l.pass
+
+abbrev pub decreases-loop-at : goal.decreases-loop-at
+decreases-loop-at l = length l.part - l.at

@@ -1,0 +1,12 @@
+use borrow.Author.Rules.{rules}
+use mathlib.Core.Path.{refl}
+use Rattle.select.specs.Source.{entries_of}
+use Rattle.select.proofs.PassLaws.{left}
+use Rattle.select.proofs.SearchReturns.{Searching, search_starts, search_ends, search_on, search_less}
+use Rattle.select.proofs.search.Given as goal
+
+abbrev pub invariant-loop-y : goal.invariant-loop-y
+invariant-loop-y l = Searching l.source l.part l.initial.table l.table l.low l.stop
+
+abbrev pub decreases-loop-y : goal.decreases-loop-y
+decreases-loop-y l = left l.part l.low (entries_of l.source l.part)

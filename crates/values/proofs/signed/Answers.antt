@@ -1,0 +1,23 @@
+use borrow.Author.Rules.{rules}
+use borrow.Author.Rules.{rules}
+use mathlib.Core.Path.{◌∙◌}
+use Rattle.values.proofs.ValueLaws.{signed_is}
+use Rattle.values.proofs.signed.Goals as goal
+
+pub returns-in-Fault : goal.returns-in-Fault
+returns-in-Fault c = signed_is _ _ _ c.value_at.ensures _ c.in-Fault.is
+
+pub returns-in-Positive : goal.returns-in-Positive
+returns-in-Positive c = c.signed_of.ensures ∙ signed_is _ _ _ c.value_at.ensures _ c.in-Positive.is
+
+pub returns-in-Negative : goal.returns-in-Negative
+returns-in-Negative c = c.signed_of-in-Negative.ensures ∙ signed_is _ _ _ c.value_at.ensures _ c.in-Negative.is
+
+pub returns-in-Real : goal.returns-in-Real
+returns-in-Real c = signed_is _ _ _ c.value_at.ensures _ c.in-Real.is
+
+pub returns-in-Time : goal.returns-in-Time
+returns-in-Time c = signed_is _ _ _ c.value_at.ensures _ c.in-Time.is
+
+pub returns-in-Other : goal.returns-in-Other
+returns-in-Other c = signed_is _ _ _ c.value_at.ensures _ c.in-Other.is
