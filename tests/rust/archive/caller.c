@@ -1,6 +1,6 @@
-/* A C program that calls the static library as the kit writes it: for x86-64 Linux, without a C library, so that the kit's
- * clang and lld are enough to build it. It answers blocks of requests on its standard input, each a number of bytes (32 bits,
- * little-endian as all here) and so many bytes of requests, by blocks of answers of the same form.
+/* A C program that calls the static library: for x86-64 Linux, without a C library, so that the library is shown to need none. It
+ * answers blocks of requests on its standard input, each a number of bytes (32 bits, little-endian as all here) and so many bytes of
+ * requests, by blocks of answers of the same form.
  *
  * A request is: call (8 bits), 1 if the bytes are to stand against the end of their page and not its start (8 bits), eight
  * numbers (64 bits each: one whose meaning is the call's; the kind, start, end and depth of a place; whether there is a last

@@ -1,5 +1,4 @@
-//! The program that calls the static library as the kit writes it (archive/caller.c, which says how it is asked), and requests
-//! to it.
+//! The C program that calls the static library (archive/caller.c, which says how it is asked), and requests to it.
 
 use std::io::{Read, Write};
 use std::process::{Child, ChildStdin, ChildStdout, Command, Stdio};

@@ -1,6 +1,6 @@
-//! archive COUNT COMMAND..: compares the static library as the kit writes it with the independent implementation on COUNT
-//! generated payloads and write lists: COMMAND runs the program that calls it (archive/caller.c), under an emulator where the machine is no
-//! x86-64. Every payload and list stands between pages that cannot be touched, against the end of its page or the start. The last line
+//! archive COUNT COMMAND..: compares the static library as C calls it with the independent implementation on COUNT
+//! generated payloads and write lists: COMMAND runs the program that calls it (archive/caller.c).
+//! Every payload and list stands between pages that cannot be touched, against the end of its page or the start. The last line
 //! is `compared N, differences M`; the exit status is 1 if M is not 0, and 2 if the library has no call or the program ends.
 
 use std::process::ExitCode;

@@ -1,7 +1,7 @@
 //! stack [COMMAND..]: how many bytes of stack each call of the library takes, measured from outside on hostile inputs: what stands
 //! below the caller's stack is painted, and after the call it is looked up how deep the paint is gone. A part of the stack that a
 //! call leaves room for and does not touch, below all that it touches, is not seen. With COMMAND, what is measured is the
-//! static library as the kit writes it, by the program that COMMAND runs (archive/caller.c). Prints for each call how often it
+//! static library as C calls it, by the program that COMMAND runs (archive/caller.c). Prints for each call how often it
 //! was called, the most bytes, on which input, and how many are allowed. The last line is `measured N calls, above M`: how many
 //! calls took more than they are allowed; the exit status is 1 if M is not 0, and 2 if there is no call or the program ends.
 
