@@ -1,11 +1,11 @@
 -- What was put into the text is the answer's, case by case.
-use Prim.Native.Nat.{ℕ, ◌+◌, ◌*◌, ◌≤◌, ◌<◌, min}
+use Prim.Native.Nat.{ℕ, ◌+◌, ◌*◌, ◌≤◌, min}
 use native.Mathlib.Omega.{arith}
 use mathlib.Core.Path.{◌≡◌, refl, sym, ap, ◌∙◌}
-use mathlib.Core.Bool.{Bool, true, false, ◌||◌, cond}
-use mathlib.Core.List.{List, [], ◌∷◌, ◌++◌}
+use mathlib.Core.Bool.{Bool, true, false, ◌||◌}
+use mathlib.Core.List.{List, ◌++◌}
 use lib.ListN.{length, take, drop, length-append}
-use lib.Seq.{sets, sets-eq, length-take-le, take_at, take_all, take-length}
+use lib.Seq.{sets-eq, length-take-le, take_at, take_all, take-length}
 use lib.Dec.{ltb}
 use borrow.Author.Tests.{ltb-true, ltb-false}
 use Rattle.frames.specs.declared.Refusal.{Refusal}
@@ -15,11 +15,11 @@ use Rattle.frames.specs.declared.Written.TheVariants.{Done, Refused}
 use Rattle.format.specs.Encoding.{concat}
 use Rattle.container.specs.Numbers.{cleared}
 use Rattle.frames.specs.Writer.{refusal_number, Outcome, refuse, wrote, outcome, Result, result_of, written}
-use Rattle.frames.specs.Program.{hex_byte, decimal, word_refused, word_at, line_end, typed, mistyped, printed, program_of}
+use Rattle.frames.specs.Program.{hex_byte, decimal, word_refused, word_at, line_end, typed, printed}
 use Rattle.hexadecimal.specs.declared.Typing.{Typing}
 use Rattle.answers.specs.declared.Printed.{Printed}
 use Rattle.printing.specs.Text.{Put, put, put_in}
-use Rattle.answers.specs.Answer.{typed_of, Answered, is_refused, told, answered_of, answered}
+use Rattle.answers.specs.Answer.{Answered, is_refused, told, answered_of, answered}
 use Rattle.printing.proofs.TextLaws.{decimal_length, bytes_length, put_inside}
 
 -- ---- what is put at the front of the text

@@ -2,20 +2,20 @@
 use Prim.Native.Nat.{ℕ, ◌+◌, ◌^◌, ◌≤◌, ◌<◌}
 use native.Mathlib.Omega.{arith}
 use mathlib.Core.Path.{◌≡◌, refl, sym, ap, ◌∙◌}
-use mathlib.Core.Bool.{Bool, true, false, ◌||◌, cond}
-use mathlib.Core.List.{List, [], ◌∷◌, ◌++◌}
+use mathlib.Core.Bool.{Bool, true, false}
+use mathlib.Core.List.{List, ◌++◌}
 use lib.ListN.{length, take, drop, length-append}
 use lib.Dec.{ltb}
 use lib.Seq.{take_at, take_all}
 use borrow.Author.Tests.{lt-ltb, ltb-true, ltb-false}
 use Rattle.frames.specs.declared.Refusal.TheVariants.{ListTooLong}
-use Rattle.frames.specs.Writer.{Outcome, refuse, outcome, Result, result_of, written}
+use Rattle.frames.specs.Writer.{refuse, outcome, result_of, written}
 use Rattle.frames.specs.Program.{Typed, typed, mistyped, printed, program_of, bytes_typed, program}
 use Rattle.hexadecimal.specs.declared.Typing.{Typing}
 use Rattle.hexadecimal.specs.Typing.{Fed, afterwards, start, fed}
 use Rattle.hexadecimal.proofs.Parts.{whole_typed, whole_mistyped}
 use Rattle.hexadecimal.proofs.TypingLaws.{fed_length}
-use Rattle.answers.specs.Answer.{typed_of, Answered, told, answered_of, answered}
+use Rattle.answers.specs.Answer.{typed_of, Answered, answered_of, answered}
 
 -- ---- a list that is too long, whatever its bytes
 

@@ -7,7 +7,6 @@ use Rattle.text.specs.Utf8.{is_text}
 use Rattle.float.specs.Rule.{holds}
 use Rattle.float.specs.Width.{widen}
 use Rattle.places.specs.declared.Place.{Place}
-use Rattle.places.specs.declared.After.{After}
 use Rattle.format.specs.Mask.{mask}
 use Rattle.validate.specs.Asked.{mask_with}
 use Rattle.places.specs.Places.{checked, top, step, part, lookup}

@@ -2,14 +2,14 @@
 use Prim.Native.Nat.{ℕ}
 use mathlib.Core.Path.{◌≡◌, refl, sym, ap}
 use mathlib.Core.Bool.{Bool, true, false}
-use mathlib.Core.List.{List, [], ◌∷◌, ◌++◌, append_assoc}
+use mathlib.Core.List.{List, ◌∷◌, ◌++◌, append_assoc}
 use Rattle.format.specs.declared.Stop.{Stop}
 use Rattle.faults.specs.declared.Modes.{Modes}
 use Rattle.faults.specs.declared.Faults.{Faults}
 use Rattle.format.specs.Kinds.{id}
 use Rattle.format.specs.declared.Flaw.{Flaw}
 use Rattle.format.specs.Parse.{Out, fault, got, with_flaws, bind, raise}
-use Rattle.format.specs.Reader.{Standing, Named, Layout, kinds_in, read}
+use Rattle.format.specs.Reader.{Standing, Named, Layout, kinds_in}
 use Rattle.faults.specs.Noted.{noted, flaw_if}
 use Rattle.format.proofs.Local.{with_put}
 use Rattle.faults.proofs.NotedLaws.{noted_none, noted_more}

@@ -6,7 +6,7 @@ use mathlib.Core.Path.{◌≡◌}
 use mathlib.Core.Bool.{Bool, true, false}
 use mathlib.Core.Logic.{◌↔◌}
 use mathlib.Core.Option.{Option, some}
-use mathlib.Core.List.{List, [], ◌++◌}
+use mathlib.Core.List.{List, ◌++◌}
 use lib.ListN.{length, take, drop}
 use lib.Seq.{slice}
 use lib.Ieee.{binary32, binary64, of_bits}
@@ -85,12 +85,12 @@ use Rattle.frames.proofs.Refusals as frames
 -- tests/contracts, a part of the gate, lists every public call with its contract, and fails on a `requires`, on a missing `ensures`, and on a call that is not
 -- named here:
 --   validate::validate                                  r ≡ mask modes payload                                        crates/validate/src/lib.rt
---   validate::validate_with                             answer, table ≡ maskWith modes payload table
+--   validate::validate_with                             answer, table ≡ mask_with modes payload table
 --   Place::top                                          r ≡ top payload                                               crates/places/src/lib.rt
 --   open::checked                                       r ≡ checked payload place                                     crates/open/src/lib.rt
 --   read::step, lookup                                  r ≡ step payload container last, ...                          crates/read/src/lib.rt
 --   views::part                                         r ≡ part payload place                                        crates/views/src/lib.rt
---   views::view, name_view                              now r ≡ view payload place, nameView payload container last
+--   views::view, name_view                              now r ≡ view payload place, name_view payload container last
 --   values::double, signed, unsigned, ticks             r ≡ double payload place, ...                                 crates/values/src/lib.rt
 --   write::write                                        answer, output, work ≡ written list output work               crates/write/src/lib.rt
 --   answers::whole                                      text ≡ program input ++ what stood behind it                  crates/answers/src/lib.rt

@@ -3,11 +3,10 @@ use Prim.Native.Nat.{ℕ, zero, suc, ◌+◌, ◌^◌, ◌≤◌, ◌<◌}
 use native.Mathlib.Omega.{arith}
 use mathlib.Core.Path.{◌≡◌, refl}
 use mathlib.Core.Bool.{Bool, true, false, not, cond}
-use mathlib.Core.List.{List, [], ◌∷◌, ◌++◌, map}
-use lib.Dec.{ltb}
+use mathlib.Core.List.{List, ◌∷◌, ◌++◌, map}
 use lib.ListN.{length, length-append}
 use lib.IntN.{pos, negsuc}
-use borrow.Author.Tests.{ltb-true, not-true}
+use borrow.Author.Tests.{not-true}
 use Rattle.number.specs.BigEndian.{All, Bytes, to_bytes}
 use Rattle.number.specs.VarUInt.{encoded}
 use Rattle.number.specs.Signed.{to_twos}
@@ -18,7 +17,7 @@ use Rattle.float.specs.Width.{narrow}
 use Rattle.format.specs.declared.Kind.{Kind}
 use Rattle.format.specs.declared.Mark.{Mark}
 use Rattle.format.specs.declared.Mark.TheVariants.{OfTop, OfField, OfItem, SharedByFields, SharedByItems}
-use Rattle.format.specs.Kinds.{id, flags, type_byte, same, all, is_bare, is_uniform, is_uniform_array}
+use Rattle.format.specs.Kinds.{flags, type_byte, same, all, is_bare, is_uniform, is_uniform_array}
 use Rattle.format.specs.Tree.{Float, number, nan32, nan64, Leaf, null, bool, integer, float, binary, string, object_attachment, binary_attachment, hash}
 use Rattle.format.specs.Tree.{uuid, object_id, date_time, time_span, custom_by_id, custom_by_name, Node, atom, array, object, Tree, NameWithin, LeafWithin}
 use Rattle.format.specs.Tree.{NodeWithin, Within}

@@ -2,7 +2,7 @@
 use Prim.Native.Nat.{ℕ, zero, suc, ◌-◌}
 use mathlib.Core.Path.{◌≡◌, refl, ap, ◌∙◌}
 use mathlib.Core.Bool.{Bool, true, false, cond}
-use mathlib.Core.List.{List, [], ◌∷◌}
+use mathlib.Core.List.{List, ◌∷◌}
 use lib.ListN.{length, drop, take}
 use lib.Dec.{ltb}
 use Rattle.number.proofs.Clash.{clash}
@@ -23,7 +23,7 @@ use Rattle.format.specs.declared.Flaw.{Flaw}
 use Rattle.format.specs.Parse.{Out, fault, got, with_flaws, bind, make, whole, read_var_uint, sized}
 use Rattle.format.specs.Tree.{Leaf}
 use Rattle.format.specs.Payload.{Payload, leaf, fields, shared_fields, items, shared_items, payload, Head, value, fields_in, items_in, shared_fields_of}
-use Rattle.format.specs.Payload.{read_shared_fields, shared_items_of, read_shared_items, read_fields, read_items, head_by, head}
+use Rattle.format.specs.Payload.{read_shared_fields, shared_items_of, read_shared_items, read_fields, read_items, head}
 use Rattle.frames.specs.FramePieces.{IsLeaf}
 use Rattle.faults.specs.Noted.{noted, nothing}
 use Rattle.front.specs.Code.{answer_of}

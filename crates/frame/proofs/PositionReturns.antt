@@ -1,9 +1,9 @@
 -- A name and a leaf by a position of the list: what stands behind it, counted from the front of the list.
-use Prim.Native.Nat.{ℕ, ◌+◌, ◌-◌, ◌*◌, ◌≤◌, ◌<◌}
+use Prim.Native.Nat.{ℕ, ◌+◌, ◌-◌, ◌≤◌, ◌<◌}
 use native.Mathlib.Omega.{arith}
 use mathlib.Core.Path.{◌≡◌, refl, sym, ap, ◌∙◌}
 use mathlib.Core.Bool.{Bool, true, false, cond}
-use mathlib.Core.List.{List, ◌++◌}
+use mathlib.Core.List.{List}
 use lib.ListN.{length, drop, length-append, length-drop, drop_of_length-le}
 use Rattle.number.proofs.Clash.{clash}
 use Rattle.format.specs.declared.Kind.{Kind}
@@ -18,7 +18,7 @@ use Rattle.format.specs.Tree.{Leaf}
 use Rattle.format.specs.Payload.{Payload, leaf, fields, shared_fields, items, shared_items, payload}
 use Rattle.front.specs.Between.{between}
 use Rattle.front.proofs.BetweenLaws.{rest_all}
-use Rattle.frames.specs.WriteList.{Frames, refused, framed, leaf_found}
+use Rattle.frames.specs.WriteList.{Frames, refused, framed}
 use Rattle.frames.specs.FramePieces.{leaf_by}
 use Rattle.frames.proofs.LeafLaws.{leaf_left}
 use Rattle.frames.proofs.Used.{leaf_found_law}

@@ -1,19 +1,19 @@
 -- Typing part by part gives what `bytes_typed` gives of the whole text: parts may be cut anywhere; the bytes, if the list has room for them, stand at its
 -- front; and a mistyped text is told at its place.
-use Prim.Native.Nat.{ℕ, zero, suc, ◌+◌, ◌-◌, ◌*◌, ◌%◌, ◌^◌, ◌≤◌, ◌<◌}
+use Prim.Native.Nat.{ℕ, suc, ◌+◌, ◌-◌, ◌*◌, ◌%◌, ◌^◌, ◌≤◌, ◌<◌}
 use native.Mathlib.Omega.{arith}
-use mathlib.Core.Path.{◌≡◌, refl, sym, ap, ◌∙◌, subst}
+use mathlib.Core.Path.{◌≡◌, refl, ap, ◌∙◌, subst}
 use mathlib.Core.Bool.{Bool, true, false, ◌&&◌, ◌||◌, cond}
 use mathlib.Core.Option.{Option, none, some}
-use mathlib.Core.List.{List, [], ◌∷◌, ◌++◌}
-use lib.ListN.{length, take, drop, set, length-set}
+use mathlib.Core.List.{List, ◌∷◌, ◌++◌}
+use lib.ListN.{length, drop, set, length-set}
 use lib.Seq.{sets, sets-eq}
-use lib.Dec.{eqb, ltb, leb}
+use lib.Dec.{eqb, leb}
 use borrow.Author.Tests.{lt-ltb, leb-true}
 use Rattle.number.proofs.Clash.{clash}
 use Rattle.frames.specs.Program.{Character, digit, line_feed, another, character, Typed, typed, mistyped, first, type_one, type_from, bytes_typed}
 use Rattle.hexadecimal.specs.declared.Typing.{Typing}
-use Rattle.hexadecimal.specs.Typing.{told_of, told, Fed, afterwards, start, one_more, put, fed_second, fed_by, fed_one, onward, fed}
+use Rattle.hexadecimal.specs.Typing.{told, afterwards, start, put, fed_one, onward, fed}
 
 -- ---- parts
 

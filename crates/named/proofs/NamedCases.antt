@@ -1,9 +1,9 @@
 -- A field with its name: what the code knows at each return, and what the answer says of the field and of where its name stands.
-use Prim.Native.Nat.{ℕ, zero, suc, ◌+◌, ◌-◌, ◌≤◌, ◌<◌}
+use Prim.Native.Nat.{ℕ, zero, suc, ◌-◌, ◌≤◌, ◌<◌}
 use native.Mathlib.Omega.{arith}
 use mathlib.Core.Path.{◌≡◌, refl, sym, ap, ◌∙◌}
 use mathlib.Core.List.{List}
-use lib.ListN.{length, take, drop, length-drop}
+use lib.ListN.{length, drop, length-drop}
 use lib.Seq.{length-take-le}
 use Rattle.number.proofs.Clash.{clash}
 use Rattle.format.specs.declared.Kind.{Kind}
@@ -21,7 +21,6 @@ use Rattle.head.specs.declared.Met.{Met}
 use Rattle.head.specs.declared.Met.TheVariants as M
 use Rattle.head.specs.Code.{meeting, met_of, met_in, meet_at}
 use Rattle.names.specs.FieldNames as names
-use Rattle.names.specs.declared.Name.{Name}
 use Rattle.names.proofs.NameFound.{name_is}
 use Rattle.contents.specs.declared.Field.{Field}
 use Rattle.contents.specs.declared.Field.TheVariants as F

@@ -1,14 +1,13 @@
 -- The fields of an object with their names, as the loop reads and notes them.
-use Prim.Native.Nat.{ℕ, zero, suc, ◌+◌, ◌-◌, ◌≤◌, ◌<◌}
+use Prim.Native.Nat.{ℕ, ◌+◌, ◌-◌, ◌≤◌, ◌<◌}
 use native.Mathlib.Omega.{arith}
-use mathlib.Core.Path.{◌≡◌, refl, sym, ap, ◌∙◌}
+use mathlib.Core.Path.{◌≡◌, refl, ap, ◌∙◌}
 use mathlib.Core.Bool.{Bool, true, false, cond}
-use mathlib.Core.List.{List, [], ◌∷◌, ◌++◌, append-nil}
+use mathlib.Core.List.{List, ◌∷◌, ◌++◌, append-nil}
 use lib.ListN.{length, take, drop, length-append, length-drop, drop_of_length-le}
 use lib.Seq.{take_at, length-take-le}
 use lib.Dec.{eqb, ltb}
-use borrow.Author.Tests.{eqb-true, eqb-false}
-use Rattle.number.proofs.Clash.{clash}
+use borrow.Author.Tests.{eqb-true}
 use Rattle.format.specs.declared.Kind.{Kind}
 use Rattle.format.specs.declared.Form.{Form}
 use Rattle.format.specs.declared.Stop.{Stop}
@@ -19,9 +18,7 @@ use Rattle.format.specs.Kinds.{id}
 use Rattle.format.specs.Payload.{fields_in}
 use Rattle.front.specs.Between.{between}
 use Rattle.front.proofs.BetweenLaws.{rest_all}
-use Rattle.head.specs.Code.{meeting}
 use Rattle.run.specs.Run.{join}
-use Rattle.names.specs.declared.Name.{Name}
 use Rattle.names.specs.declared.Name.TheVariants as N
 use Rattle.names.specs.FieldNames as names
 use Rattle.entries.specs.Entry.{entry_of}

@@ -2,7 +2,7 @@
 use Prim.Native.Nat.{ℕ, zero, suc, ◌+◌, ◌≤◌, ◌<◌}
 use native.Mathlib.Omega.{arith}
 use mathlib.Core.Path.{◌≡◌, refl, sym, ap, ◌∙◌}
-use mathlib.Core.List.{List, [], ◌∷◌, ◌++◌, append_assoc}
+use mathlib.Core.List.{List, ◌∷◌, ◌++◌, append_assoc}
 use lib.ListN.{length, length-append}
 use Rattle.format.specs.declared.Kind.{Kind}
 use Rattle.format.specs.declared.Form.{Form}
@@ -15,7 +15,7 @@ use Rattle.head.specs.Code.{meeting}
 use Rattle.format.proofs.Back.{never}
 use Rattle.format.proofs.Local.{bind_got, whole_got, with_put}
 use Rattle.format.proofs.HeadParts.{local_head, front_takes}
-use Rattle.names.specs.FieldNames.{names_at, field_names, behind}
+use Rattle.names.specs.FieldNames.{names_at, field_names}
 use Rattle.names.proofs.NameBound.{name_met}
 
 -- ---- the names that the reader gives

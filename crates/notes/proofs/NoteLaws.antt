@@ -1,10 +1,10 @@
 -- What notes say of the names that were met: at the end where the first of them begins that stands a second time.
-use Prim.Native.Nat.{ℕ, zero, suc, ◌+◌, ◌≤◌, ◌<◌}
+use Prim.Native.Nat.{ℕ, ◌+◌, ◌≤◌, ◌<◌}
 use native.Mathlib.Omega.{arith}
 use native.Mathlib.Numerals.{add-one}
 use mathlib.Core.Path.{◌≡◌, refl, sym, ap, ◌∙◌}
 use mathlib.Core.Bool.{Bool, true, false, ◌&&◌, cond}
-use mathlib.Core.List.{List, [], ◌∷◌, ◌++◌}
+use mathlib.Core.List.{List, ◌∷◌, ◌++◌}
 use lib.ListN.{length, take, drop, set, replicate, length-append, length-drop, length-set, length-replicate}
 use lib.Seq.{take-suc-set}
 use lib.Dec.{ltb, leb}
@@ -15,15 +15,15 @@ use Rattle.compare.specs.declared.Order.{Order}
 use Rattle.compare.specs.declared.Order.TheVariants as O
 use Rattle.entries.specs.Entry.{begin_in, bytes_in, name_in}
 use Rattle.compare.specs.Order.{order, is_less, ascends}
-use Rattle.entries.specs.Least.{is_first, lesser, least}
+use Rattle.entries.specs.Least.{lesser, least}
 use Rattle.entries.specs.Among.{In, here, there}
 use Rattle.compare.proofs.OrderLaws.{order_refl, order_trans}
 use Rattle.entries.proofs.LeastLaws.{first_is, lesser_right, least_bound, least_over_law}
 use Rattle.select.specs.declared.Source.{Source}
-use Rattle.select.specs.Source.{Searched, entries_of, first_twin, zeroed, searched}
+use Rattle.select.specs.Source.{entries_of, first_twin, zeroed, searched}
 use Rattle.notes.specs.declared.Notes.{Notes}
 use Rattle.notes.specs.declared.Notes.TheVariants.{Few, Rising, Many}
-use Rattle.notes.specs.Notes.{rises_from, rises, held_in, risen, Noting, noting, added, told}
+use Rattle.notes.specs.Notes.{rises_from, rises, held_in, risen, noting, added, told}
 
 -- ---- names that ascend
 

@@ -1,10 +1,9 @@
 -- What the code answers, at each return.
 use Prim.Native.Nat.{ℕ, suc, ◌+◌, ◌-◌, ◌≤◌, ◌<◌}
 use native.Mathlib.Omega.{arith}
-use native.Mathlib.Numerals.{add-one}
 use mathlib.Core.Path.{◌≡◌, refl, sym, ap, ◌∙◌}
 use mathlib.Core.Bool.{Bool, true, false, ◌&&◌, cond}
-use mathlib.Core.List.{List, [], ◌∷◌, ◌++◌}
+use mathlib.Core.List.{List, ◌∷◌, ◌++◌}
 use lib.ListN.{length, take, set, get_or}
 use lib.Seq.{take-suc, take_all}
 use lib.Dec.{ltb}
@@ -16,7 +15,7 @@ use Rattle.select.specs.declared.Source.{Source}
 use Rattle.select.specs.Source.{Searched, searched}
 use Rattle.notes.specs.declared.Notes.{Notes}
 use Rattle.notes.specs.declared.Notes.TheVariants.{Few, Rising, Many}
-use Rattle.notes.specs.Notes.{rises_from, rises, held_in, risen, noting, added, told}
+use Rattle.notes.specs.Notes.{rises_from, rises, risen, noting, added, told}
 use Rattle.notes.proofs.NoteLaws.{rises_last}
 
 -- ---- names that ascend, from the end: y comes behind the first i, and this is left to be seen

@@ -3,7 +3,6 @@ use Prim.Native.Nat.{ℕ}
 use mathlib.Core.List.{List}
 use Rattle.number.proofs.OneAnswer.{One, one}
 use Rattle.places.specs.declared.Place.{Place}
-use Rattle.places.specs.declared.After.{After}
 use Rattle.places.specs.Places.{checked, top, step, part, lookup}
 use Rattle.replies.specs.Reply.{told}
 use Rattle.place_replies.specs.PlaceReply.{place_of, after_of, checked_reply, top_reply, step_reply, part_reply, found_reply}

@@ -3,7 +3,7 @@ use Prim.Native.Nat.{ℕ, zero, suc, ◌+◌, ◌≤◌, ◌<◌}
 use native.Mathlib.Omega.{arith}
 use mathlib.Core.Path.{◌≡◌, refl, sym, ap, ◌∙◌}
 use mathlib.Core.Bool.{Bool, true, false}
-use mathlib.Core.List.{List, [], ◌∷◌}
+use mathlib.Core.List.{List, ◌∷◌}
 use lib.ListN.{length}
 use lib.Seq.{slice}
 use Rattle.text.specs.Equal.{equal}
@@ -17,8 +17,7 @@ use Rattle.places.specs.declared.Step.{Step}
 use Rattle.places.specs.declared.Step.TheVariants.{Field, NoMore, WrongKind, Fault}
 use Rattle.places.specs.declared.Found.{Found}
 use Rattle.places.specs.declared.Found.TheVariants as F
-use Rattle.format.specs.declared.Flaw.{Flaw}
-use Rattle.format.specs.Parse.{Out, fault, got, bind, fill}
+use Rattle.format.specs.Parse.{Out, got, bind, fill}
 use Rattle.format.specs.Payload.{front, head}
 use Rattle.format.specs.Reader.{contents, read_node, read}
 use Rattle.places.specs.Places.{step, look_at, look_from}

@@ -3,7 +3,7 @@
 -- the definitions is refused here.
 use Prim.Native.Nat.{ℕ}
 use mathlib.Core.Path.{◌≡◌, refl}
-use mathlib.Core.List.{List, [], ◌∷◌, ◌++◌, map}
+use mathlib.Core.List.{List, ◌∷◌, map}
 use lib.ListN.{replicate}
 use lib.IntN.{pos, negsuc}
 use lib.Ieee.{of_bits, to_bits, of_int, nan_bits}
@@ -16,23 +16,14 @@ use Rattle.format.specs.declared.Stop.TheVariants.{Early, Unknown, TooDeep, TooL
 use Rattle.places.specs.declared.Place.{Place}
 use Rattle.places.specs.declared.After.{After}
 use Rattle.places.specs.declared.After.TheVariants.{Start, Last}
-use Rattle.places.specs.declared.Checked.{Checked}
 use Rattle.places.specs.declared.Checked.TheVariants as C
-use Rattle.places.specs.declared.Top.{Top}
 use Rattle.places.specs.declared.Top.TheVariants as T
-use Rattle.places.specs.declared.Step.{Step}
 use Rattle.places.specs.declared.Step.TheVariants as S
-use Rattle.places.specs.declared.Part.{Part}
 use Rattle.places.specs.declared.Part.TheVariants as P
-use Rattle.places.specs.declared.Found.{Found}
 use Rattle.places.specs.declared.Found.TheVariants as F
-use Rattle.places.specs.declared.Double.{Double}
 use Rattle.places.specs.declared.Double.TheVariants as D
-use Rattle.places.specs.declared.Signed.{Signed}
 use Rattle.places.specs.declared.Signed.TheVariants as I
-use Rattle.places.specs.declared.Unsigned.{Unsigned}
 use Rattle.places.specs.declared.Unsigned.TheVariants as U
-use Rattle.places.specs.declared.Ticks.{Ticks}
 use Rattle.places.specs.declared.Ticks.TheVariants as K
 use Rattle.format.specs.Kinds.{known, is_bare, has_size}
 use Rattle.format.specs.Parse.{read_var_uint, fixed}

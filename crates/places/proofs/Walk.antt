@@ -3,8 +3,7 @@
 use Prim.Native.Nat.{ℕ, suc, ◌+◌, ◌≤◌, ◌<◌}
 use mathlib.Core.Path.{◌≡◌, refl, ap, sym, ◌∙◌}
 use mathlib.Core.Logic.{◌↔◌}
-use mathlib.Core.Option.{some}
-use mathlib.Core.List.{List, [], map}
+use mathlib.Core.List.{List, map}
 use lib.ListN.{length}
 use lib.Seq.{slice}
 use borrow.Author.Tests.{le-ltb}
@@ -14,7 +13,6 @@ use Rattle.format.specs.declared.Form.TheVariants.{Top}
 use Rattle.places.specs.declared.Place.{Place}
 use Rattle.places.specs.declared.After.TheVariants.{Start}
 use Rattle.places.specs.declared.Found.TheVariants as F
-use Rattle.places.specs.declared.Top.TheVariants as T
 use Rattle.format.specs.Parse.{got}
 use Rattle.format.specs.Limits.{depth_limit, length_limit}
 use Rattle.format.specs.Tree.{Tree, object}
@@ -22,7 +20,7 @@ use Rattle.format.specs.Encoding.{concat, encoding, WithinLimits}
 use Rattle.format.specs.Payload.{payload}
 use Rattle.format.specs.Reader.{Standing, Named, Layout, tree, read, tree_of}
 use Rattle.format.specs.Mask.{mask, bounds_only}
-use Rattle.places.specs.Places.{top, lookup}
+use Rattle.places.specs.Places.{lookup}
 use Rattle.places.specs.Show.{ShownFields, Shown, ShownPayload}
 use Rattle.places.specs.Stepping.{field_at, place_at, Agree, stepping, events, ranges, payload_range, Apart, IsFirst}
 use Rattle.format.proofs.Masks.{mask_case, bounds_case}

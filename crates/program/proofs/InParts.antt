@@ -2,11 +2,10 @@
 use Prim.Native.Nat.{ℕ, ◌+◌, ◌-◌, ◌^◌, ◌≤◌, ◌<◌}
 use native.Mathlib.Omega.{arith}
 use mathlib.Core.Path.{◌≡◌, refl, sym, ap, subst, ◌∙◌}
-use mathlib.Core.Bool.{Bool, true, false, cond}
+use mathlib.Core.Bool.{cond}
 use mathlib.Core.Logic.{◌⊎◌, inl, inr}
-use mathlib.Core.List.{List, [], ◌∷◌, ◌++◌}
+use mathlib.Core.List.{List, ◌∷◌, ◌++◌}
 use lib.ListN.{length, take, drop, length-append, length-take}
-use Rattle.format.specs.Encoding.{concat}
 use Rattle.frames.specs.Writer.{Outcome, refuse, wrote}
 use Rattle.frames.specs.Program.{Typed, typed, mistyped, program_of, bytes_typed, program}
 use Rattle.hexadecimal.specs.declared.Typing.{Typing}

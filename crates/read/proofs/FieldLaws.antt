@@ -14,7 +14,7 @@ use Rattle.format.specs.Payload.{head}
 use Rattle.head.specs.Code.{meeting, meet_at}
 use Rattle.places.specs.declared.Field.{Field}
 use Rattle.places.specs.declared.Field.TheVariants as D
-use Rattle.places.specs.Places.{place_with, met}
+use Rattle.places.specs.Places.{place_with}
 use Rattle.places.specs.Placed.{placed_by, placed, field_in}
 use Rattle.format.proofs.Local.{local_le}
 use Rattle.format.proofs.HeadParts.{local_head, front_takes}

@@ -1,32 +1,31 @@
 -- A full table is cut: it is arranged, what begins at the first twin or behind it goes, and then the upper half, if more than half is left.
 use Prim.Native.Nat.{ℕ, suc, ◌+◌, ◌-◌, ◌*◌, ◌/◌, ◌≤◌, ◌<◌}
 use native.Mathlib.Omega.{arith}
-use mathlib.Core.Path.{◌≡◌, refl, sym, ap, ◌∙◌}
+use mathlib.Core.Path.{◌≡◌, ap, ◌∙◌}
 use mathlib.Core.Bool.{Bool, true, false, cond}
-use mathlib.Core.List.{List, [], ◌∷◌, ◌++◌, append_assoc}
+use mathlib.Core.List.{List, ◌∷◌, ◌++◌, append_assoc}
 use lib.ListN.{length, take, drop, get_or, replicate, length-append, length-drop, length-replicate}
 use lib.Seq.{take_at, length-take-le, get_or-take, take-take}
 use lib.Dec.{ltb}
-use borrow.Author.Tests.{le-ltb, lt-ltb, ltb-true, ltb-false}
+use borrow.Author.Tests.{le-ltb}
 use Rattle.number.proofs.Clash.{clash}
 use Rattle.order.specs.declared.Arranged.{Arranged}
 use Rattle.order.specs.declared.Arranged.TheVariants as A
 use Rattle.entries.specs.Entry.{begin_in, name_in}
-use Rattle.entries.specs.Least.{is_first, lesser, least}
+use Rattle.entries.specs.Least.{lesser, least}
 use Rattle.order.specs.Arranged.{before, kept, ordered, Afterwards, afterwards, settled, arranged}
 use Rattle.entries.specs.Among.{In}
 use Rattle.order.specs.Sorted.{Sorted}
 use Rattle.entries.proofs.Perms.{perm_in, perm_back}
 use Rattle.order.proofs.SortedLaws.{ordered_sorted, ordered_perm, ordered_length}
-use Rattle.entries.proofs.LeastLaws.{same_named, one_begin, lesser_left, lesser_right, lesser_both, least_more, least_bound}
+use Rattle.entries.proofs.LeastLaws.{same_named, one_begin, lesser_left, lesser_right, lesser_both, least_more}
 use Rattle.order.proofs.KeptLaws.{kept_in, kept_before, kept_has, kept_once}
 use Rattle.select.specs.declared.Bound.{Bound}
 use Rattle.select.specs.declared.Bound.TheVariants as B
 use Rattle.select.specs.declared.Pass.{Pass}
-use Rattle.select.specs.Range.{above, up_to, wanted}
-use Rattle.select.specs.Passes.{Covered, Holds, Reached, Standing, Cuts}
+use Rattle.select.specs.Passes.{Covered, Standing}
 use Rattle.select.proofs.RangeLaws.{up_trans, Wanted, wanted_is, is_wanted}
-use Rattle.select.proofs.HalfLaws.{in_first, half_last, half_there, half_all}
+use Rattle.select.proofs.HalfLaws.{half_last, half_there, half_all}
 
 -- ---- what begins before a place
 

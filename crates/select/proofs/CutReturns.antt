@@ -1,7 +1,7 @@
 -- What a cut of a full table answers, what a pass answers at its end, and one entry more: at each return.
 use Prim.Native.Nat.{ℕ, suc, ◌+◌, ◌-◌, ◌/◌, ◌≤◌, ◌<◌}
 use native.Mathlib.Omega.{arith}
-use mathlib.Core.Path.{◌≡◌, refl, sym, ap, ◌∙◌}
+use mathlib.Core.Path.{◌≡◌, refl, sym, ◌∙◌}
 use mathlib.Core.Bool.{Bool, true, false}
 use mathlib.Core.List.{List}
 use lib.ListN.{length, get_or, set}
@@ -14,7 +14,7 @@ use Rattle.select.specs.declared.Bound.TheVariants as B
 use Rattle.select.specs.declared.Pass.{Pass}
 use Rattle.select.specs.Range.{wanted}
 use Rattle.select.specs.Passes.{Standing, Cuts, Adds, Finishes}
-use Rattle.select.proofs.CutLaws.{never_full, arranged_kept, count_few, cut_whole, cut_half}
+use Rattle.select.proofs.CutLaws.{never_full, arranged_kept, cut_whole, cut_half}
 use Rattle.select.proofs.PassLaws.{put_in, put_out, pass_end}
 
 module _ (s t : List ℕ) (p : Pass) (few : p.count ≤ length t / 2) (a : Arranged) (t' : List ℕ) (e : afterwards a t' ≡ arranged s t p.count) where

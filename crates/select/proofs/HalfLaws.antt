@@ -1,15 +1,12 @@
 -- The lower half of a sorted table in which every name stands once: what is up to its last name.
 use Prim.Native.Nat.{ℕ, suc, ◌<◌}
-use native.Mathlib.Omega.{arith}
 use mathlib.Core.Path.{◌≡◌, refl, sym, ap, ◌∙◌}
 use mathlib.Core.Bool.{true}
-use mathlib.Core.List.{List, [], ◌∷◌, ◌++◌, append_assoc}
+use mathlib.Core.List.{List, ◌∷◌, ◌++◌, append_assoc}
 use lib.ListN.{length, take, drop, get_or}
 use lib.Seq.{split_at, take-suc}
 use Rattle.number.proofs.Clash.{clash}
-use Rattle.compare.specs.declared.Order.TheVariants as O
 use Rattle.entries.specs.Entry.{name_in}
-use Rattle.compare.specs.Order.{order}
 use Rattle.entries.specs.Among.{In, here, there}
 use Rattle.order.specs.Sorted.{Below, Sorted}
 use Rattle.compare.proofs.OrderLaws.{Upto, less, same, upto_is, order_not, order_trans}

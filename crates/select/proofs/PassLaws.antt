@@ -1,10 +1,10 @@
 -- A pass: one entry more, and what is known when all names were met. And the passes one after another.
-use Prim.Native.Nat.{ℕ, zero, suc, ◌+◌, ◌/◌, ◌≤◌, ◌<◌}
+use Prim.Native.Nat.{ℕ, suc, ◌+◌, ◌/◌, ◌≤◌, ◌<◌}
 use native.Mathlib.Omega.{arith}
 use native.Mathlib.Numerals.{add-one}
 use mathlib.Core.Path.{◌≡◌, refl, sym, ap, ◌∙◌}
 use mathlib.Core.Bool.{Bool, true, false, cond}
-use mathlib.Core.List.{List, [], ◌∷◌, ◌++◌}
+use mathlib.Core.List.{List, ◌∷◌, ◌++◌}
 use lib.ListN.{length, take, set, length-set}
 use lib.Seq.{take-suc-set}
 use lib.Dec.{ltb}
@@ -26,8 +26,8 @@ use Rattle.select.specs.declared.Bound.{Bound}
 use Rattle.select.specs.declared.Bound.TheVariants as B
 use Rattle.select.specs.declared.Pass.{Pass}
 use Rattle.select.specs.Range.{is_more, above, up_to, wanted}
-use Rattle.select.specs.Passes.{Covered, Settled, Holds, Reached, Standing, Cuts, Adds}
-use Rattle.select.proofs.RangeLaws.{not_above, is_up_to, same_above, same_up, Wanted, wanted_is, is_wanted}
+use Rattle.select.specs.Passes.{Covered, Settled, Standing, Cuts, Adds}
+use Rattle.select.proofs.RangeLaws.{is_up_to, same_above, same_up, is_wanted}
 use Rattle.select.proofs.CutLaws.{least_is}
 
 -- ---- one entry more

@@ -1,8 +1,8 @@
 -- What the definitions come to on small parts, computed: fields that share the kind Null, so that a field is its name; and frames of that kind.
 use Prim.Native.Nat.{ℕ}
 use mathlib.Core.Path.{◌≡◌, refl}
-use mathlib.Core.Bool.{Bool, true, false}
-use mathlib.Core.List.{List, [], ◌∷◌, map}
+use mathlib.Core.Bool.{true, false}
+use mathlib.Core.List.{List, ◌∷◌, map}
 use Rattle.format.specs.declared.Kind.TheVariants.{Null}
 use Rattle.format.specs.declared.Form.TheVariants.{SharedField}
 use Rattle.number.specs.VarUInt.{var_uint}

@@ -1,21 +1,19 @@
 -- What a pass and the whole search answer at each return.
-use Prim.Native.Nat.{ℕ, zero, suc, ◌+◌, ◌-◌, ◌/◌, ◌≤◌, ◌<◌}
+use Prim.Native.Nat.{ℕ, ◌+◌, ◌-◌, ◌/◌, ◌≤◌, ◌<◌}
 use native.Mathlib.Omega.{arith}
-use mathlib.Core.Path.{◌≡◌, refl, sym, ap, ◌∙◌, subst}
-use mathlib.Core.List.{List, [], ◌∷◌, ◌++◌}
-use lib.ListN.{length, take, replicate}
+use mathlib.Core.Path.{◌≡◌, refl, sym, ◌∙◌, subst}
+use mathlib.Core.List.{List, ◌∷◌, ◌++◌}
+use lib.ListN.{length}
 use Rattle.names.specs.declared.Name.{Name}
 use Rattle.names.specs.declared.Name.TheVariants as N
 use Rattle.entries.specs.Entry.{entry_of}
-use Rattle.entries.specs.Least.{least}
 use Rattle.entries.specs.Among.{In}
 use Rattle.select.specs.declared.Source.{Source}
 use Rattle.select.specs.declared.Bound.{Bound}
 use Rattle.select.specs.declared.Bound.TheVariants as B
 use Rattle.select.specs.declared.Pass.{Pass}
-use Rattle.select.specs.Source.{named_at, entries_of, first_twin, searched}
-use Rattle.select.specs.Range.{wanted}
-use Rattle.select.specs.Passes.{Covered, Settled, Holds, Reached, Standing, Adds, Finishes, Passes}
+use Rattle.select.specs.Source.{named_at, entries_of, first_twin}
+use Rattle.select.specs.Passes.{Covered, Settled, Reached, Standing, Adds, Finishes, Passes}
 use Rattle.select.proofs.HalfLaws.{none_in}
 use Rattle.select.proofs.WalkLaws.{Walked, walk_starts, walk_ends, walk_stops, walk_on, walk_in, walk_less}
 use Rattle.select.proofs.PassLaws.{first_pass, next_pass, last_pass, left, left_less}

@@ -1,17 +1,17 @@
 -- What the call on write lists leaves, case by case.
 use Prim.Native.Nat.{ℕ, ◌<◌, ◌≤◌}
 use mathlib.Core.Path.{◌≡◌, sym, ap, ◌∙◌}
-use mathlib.Core.List.{List, [], ◌∷◌}
+use mathlib.Core.List.{List, ◌∷◌}
 use lib.ListN.{length}
 use lib.Seq.{sets}
 use borrow.Author.Tests.{lt-ltb, le-ltb}
 use Rattle.frames.specs.declared.Written.{Written}
 use Rattle.frames.specs.declared.Written.TheVariants.{Refused}
 use Rattle.frames.specs.declared.Refusal.{Refusal}
-use Rattle.frames.specs.Writer.{refusal_number, Result, written}
+use Rattle.frames.specs.Writer.{refusal_number, written}
 use Rattle.container.specs.Numbers.{cleared}
 use Rattle.replies.specs.Number.{too_few}
-use Rattle.sending.specs.Sent.{Sent, code_of, number_of, sent_of, sent}
+use Rattle.sending.specs.Sent.{code_of, number_of, sent_of, sent}
 
 module _ (s o w l : List ℕ) where
   pub sent_none : length l < 1 → (z : List ℕ) → z ≡ cleared w → record { code = too_few; held = l; output = o; work = z } ≡ sent s o w l

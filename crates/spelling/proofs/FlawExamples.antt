@@ -1,9 +1,9 @@
 -- Layouts beside the sum of the flaws that document 01's table gives them, and the type bytes, computed from definitions that do not know the reader
 -- (specs/Flawed.antt, Kinds.antt).
-use Prim.Native.Nat.{ℕ, suc, ◌+◌, ◌-◌, ◌^◌}
+use Prim.Native.Nat.{ℕ, ◌-◌, ◌^◌}
 use mathlib.Core.Path.{◌≡◌, refl}
 use mathlib.Core.Bool.{true, false}
-use mathlib.Core.List.{List, [], ◌∷◌, map}
+use mathlib.Core.List.{List, ◌∷◌, map}
 use lib.IntN.{pos, negsuc}
 use Rattle.text.specs.Utf8.{is_text, due}
 use Rattle.text.specs.Equal.{equal}
@@ -14,7 +14,7 @@ use Rattle.format.specs.declared.Kind.TheVariants.{Float32, Float64, False, True
 use Rattle.format.specs.declared.Mark.TheVariants.{OfTop, OfField, OfItem, SharedByFields, SharedByItems}
 use Rattle.format.specs.Kinds.{kinds, type_byte, is_bare, is_uniform, is_uniform_array}
 use Rattle.format.specs.Names.{is_empty, twins}
-use Rattle.format.specs.Tree.{number, nan64, Leaf, null, bool, integer, float, binary, string, custom_by_name, Node, atom, array, object}
+use Rattle.format.specs.Tree.{number, nan64, Leaf, null, bool, integer, float, binary, string, custom_by_name, atom, array, object}
 use Rattle.format.specs.Reader.{Standing, Named, Layout}
 use Rattle.format.specs.Mask.{flaws, strict}
 use Rattle.spelling.specs.Flawed.{flawed, sum_where}

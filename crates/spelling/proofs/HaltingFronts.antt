@@ -2,9 +2,9 @@
 use Prim.Native.Nat.{ℕ}
 use native.Mathlib.Omega.{arith}
 use mathlib.Core.Path.{◌≡◌, refl, sym, ap, subst, ◌∙◌}
-use mathlib.Core.Logic.{◌⊎◌, inl, inr}
+use mathlib.Core.Logic.{inl, inr}
 use mathlib.Core.Bool.{not}
-use mathlib.Core.List.{List, [], ◌∷◌, ◌++◌}
+use mathlib.Core.List.{List, ◌∷◌, ◌++◌}
 use Rattle.number.specs.BigEndian.{Bytes}
 use Rattle.text.specs.Utf8.{is_text}
 use Rattle.format.specs.declared.Kind.{Kind}
@@ -15,14 +15,12 @@ use Rattle.format.specs.declared.Mark.TheVariants.{OfTop, OfField, OfItem}
 use Rattle.format.specs.declared.Form.{Form}
 use Rattle.format.specs.declared.Form.TheVariants.{Top, Field, Item, SharedField, SharedItem}
 use Rattle.format.specs.declared.Stop.{Stop}
-use Rattle.format.specs.declared.Stop.TheVariants as T
 use Rattle.format.specs.Kinds.{type_byte, kind_at}
-use Rattle.format.specs.declared.Flaw.{Flaw}
 use Rattle.format.specs.declared.Flaw.TheVariants.{Blank, NotUtf8}
 use Rattle.format.specs.Parse.{Out, fault, got, bind, make, whole, sized, rest}
 use Rattle.format.specs.Names.{is_empty, read_text, read_name}
-use Rattle.format.specs.Tree.{Leaf, atom}
-use Rattle.format.specs.Payload.{kind_found, read_type, Head, value, front}
+use Rattle.format.specs.Tree.{Leaf}
+use Rattle.format.specs.Payload.{kind_found, read_type, value, front}
 use Rattle.format.specs.Reader.{Reader, contents}
 use Rattle.spelling.specs.Halts.{OrBehind, TypeHalts, TextHalts, SizedHalts, FrontHalts}
 use Rattle.format.proofs.KindLaws.{kind_rt, kind_inv}

@@ -1,14 +1,14 @@
 -- A VarUInt stops exactly where only its beginning is there.
-use Prim.Native.Nat.{ℕ, zero, suc, ◌+◌, ◌-◌, ◌≤◌}
+use Prim.Native.Nat.{ℕ, zero, suc, ◌+◌, ◌-◌}
 use native.Mathlib.Omega.{arith}
 use mathlib.Core.Path.{◌≡◌, refl, sym, ap, subst, ◌∙◌}
 use mathlib.Core.Bool.{Bool, not}
-use mathlib.Core.List.{List, [], ◌∷◌, ◌++◌, append_assoc}
+use mathlib.Core.List.{List, ◌∷◌, ◌++◌, append_assoc}
 use lib.ListN.{length, take, drop, replicate, length-append, length-replicate, take-append-drop}
 use lib.Seq.{take_all}
 use lib.Dec.{leb}
-use Rattle.number.specs.BigEndian.{All, Bytes}
-use Rattle.number.specs.VarUInt.{bound, var_uint, form}
+use Rattle.number.specs.BigEndian.{Bytes}
+use Rattle.number.specs.VarUInt.{bound, var_uint}
 use Rattle.number.specs.declared.VarUInt.{VarUInt}
 use Rattle.number.specs.declared.VarUInt.TheVariants.{Cut, Whole}
 use Rattle.number.proofs.NumberThenLaws.{number_all}
@@ -17,7 +17,7 @@ use Rattle.number.proofs.VarUIntLaws.{form_reads, form_length, var_form, var_ran
 use Rattle.format.specs.declared.Stop.{Stop}
 use Rattle.format.specs.declared.Stop.TheVariants.{Early}
 use Rattle.format.specs.declared.Flaw.TheVariants.{Long}
-use Rattle.format.specs.Parse.{Out, fault, got, number, read_var_uint}
+use Rattle.format.specs.Parse.{fault, number, read_var_uint}
 use Rattle.spelling.specs.Halts.{NumberCut, NumberHalts}
 use Rattle.format.proofs.Lists.{append_nil}
 use Rattle.spelling.proofs.Halting.{raise_never, Halt}

@@ -3,7 +3,7 @@ use Prim.Native.Nat.{ℕ, zero, suc}
 use mathlib.Core.Path.{◌≡◌, refl, sym, ap, ◌∙◌}
 use mathlib.Core.Bool.{Bool, true, false, cond}
 use mathlib.Core.Option.{Option, none, some}
-use mathlib.Core.List.{List, [], ◌∷◌}
+use mathlib.Core.List.{List, ◌∷◌}
 use lib.ListN.{length}
 use lib.Dec.{eqb}
 use Rattle.text.specs.Equal.{equal}
@@ -16,7 +16,7 @@ use Rattle.format.specs.Parse.{Out, fault, got}
 use Rattle.format.specs.Payload.{payload}
 use Rattle.format.specs.Tree.{Node, Tree}
 use Rattle.frames.specs.declared.Refusal.TheVariants.{BadFrame, EmptyName, NameUsed, NotText}
-use Rattle.frames.specs.WriteList.{Frames, refused, framed, next, name_found, frame_name, FrameReader, frame_payload, frame, until_close, read_frames}
+use Rattle.frames.specs.WriteList.{Frames, refused, framed, next, name_found, frame_name, FrameReader, frame_payload, frame, read_frames}
 use Rattle.frames.specs.FramePieces.{contents_by}
 use Rattle.number.proofs.Clash.{clash}
 use Rattle.frames.proofs.FrontLaws.{never, with_name}

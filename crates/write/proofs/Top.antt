@@ -1,11 +1,11 @@
 -- The whole writer, by cases: what the first pass settled, and what the second one makes of it.
-use Prim.Native.Nat.{ℕ, suc, ◌+◌, ◌-◌, ◌≤◌, ◌<◌}
+use Prim.Native.Nat.{ℕ, ◌+◌, ◌-◌, ◌≤◌, ◌<◌}
 use native.Mathlib.Omega.{arith}
 use native.Mathlib.Nat.{zero-add}
 use mathlib.Core.Path.{◌≡◌, refl, sym, ap, ◌∙◌}
 use mathlib.Core.Bool.{Bool, true, false, ◌||◌, cond}
 use mathlib.Core.Option.{none}
-use mathlib.Core.List.{List, [], ◌∷◌, ◌++◌}
+use mathlib.Core.List.{List, ◌∷◌, ◌++◌}
 use lib.ListN.{length, drop, set, length-set, length-append, length-replicate}
 use lib.Seq.{sets, drop-append_seam}
 use lib.Dec.{eqb, ltb}
@@ -21,14 +21,14 @@ use Rattle.format.specs.Kinds.{id}
 use Rattle.format.specs.Tree.{Tree}
 use Rattle.format.specs.Encoding.{kind_of, payload_of, encoding, sizes_of}
 use Rattle.frames.specs.WriteList.{Frames, refused, framed, next, read_frames, only, read_list}
-use Rattle.frames.specs.Writer.{Outcome, refuse, wrote, outcome_of, outcome_after, outcome, Result, zeros, result_of, written}
+use Rattle.frames.specs.Writer.{Outcome, refuse, wrote, outcome_after, outcome, Result, zeros, result_of, written}
 use Rattle.frames.specs.Container.{type_part, name_part, packs_of}
 use Rattle.frames.proofs.FrontLaws.{never, next_got}
-use Rattle.frames.proofs.PlaceLaws.{sets_over, sets_front, drop_zeros}
+use Rattle.frames.proofs.PlaceLaws.{sets_front}
 use Rattle.frames.proofs.PackedLaws.{numbers_long}
 use Rattle.settle.specs.declared.Settled.{Settled}
 use Rattle.settle.specs.declared.Settled.TheVariants as S
-use Rattle.measure.specs.Settle.{Measurement, measurement, settled_by, settled_after, settled_within, settled}
+use Rattle.measure.specs.Settle.{measurement, settled_by, settled_after, settled_within, settled}
 use Rattle.write.specs.declared.Position.{Position}
 use Rattle.write.specs.Passes.{FieldGiven, FieldReady, FieldMakes}
 

@@ -1,4 +1,3 @@
-use borrow.Author.Rules.{rules}
 use native.Mathlib.Omega.{arith}
 use Rattle.answers.proofs.AnswerLaws.{answer_mistyped, held_length, answer_typed}
 use Rattle.answers.proofs.answer.Goals as goal

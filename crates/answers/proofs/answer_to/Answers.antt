@@ -1,4 +1,3 @@
-use borrow.Author.Rules.{rules}
 use Rattle.answers.proofs.AnswerLaws.{done_inside, done_length, answer_done, answer_refused}
 use Rattle.answers.proofs.answer_to.Goals as goal
 

@@ -1,4 +1,3 @@
-use borrow.Author.Rules.{rules}
 use native.Mathlib.Omega.{arith}
 use Rattle.answers.proofs.WholeInput.{whole_list, whole_is, whole_text}
 use Rattle.answers.proofs.whole.Goals as goal

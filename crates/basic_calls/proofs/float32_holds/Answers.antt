@@ -1,4 +1,3 @@
-use borrow.Author.Rules.{rules}
 use mathlib.Core.Path.{ap, ◌∙◌}
 use Rattle.replies.specs.Number.{truth}
 use Rattle.basic_calls.proofs.float32_holds.Goals as goal

@@ -1,4 +1,3 @@
-use borrow.Author.Rules.{rules}
 use Rattle.replies.specs.Reply.{varuint_reply}
 use Rattle.replies.proofs.ReplyLaws.{told_of_law}
 use Rattle.basic_calls.proofs.varuint.Goals as goal

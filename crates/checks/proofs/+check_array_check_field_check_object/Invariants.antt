@@ -1,10 +1,6 @@
-use Prim.Native.Nat.{ℕ, ◌+◌, ◌-◌, ◌*◌, ◌<◌}
-use native.Mathlib.Omega.{arith}
-use borrow.Author.Rules.{rules}
-use Rattle.checks.proofs.FieldCases.{field_deep, field_stop, field_leaf, field_fields, field_items, fields_in_law, items_in_law}
-use Rattle.checks.proofs.LoopLaws.{Fields, fields_start, fields_out, fields_fault, fields_step, fields_nameless}
-use Rattle.checks.proofs.LoopLaws.{Items, items_start, items_fault, items_step, items_left, items_end}
-use Rattle.checks.proofs.SizedItems.{sized_items_law}
+use Prim.Native.Nat.{◌+◌, ◌-◌, ◌*◌}
+use Rattle.checks.proofs.LoopLaws.{Fields}
+use Rattle.checks.proofs.LoopLaws.{Items}
 use Rattle.checks.proofs.+check_array_check_field_check_object.Given as goal
 
 abbrev pub decreases-check_array : goal.decreases-check_array

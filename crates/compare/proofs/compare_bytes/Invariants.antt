@@ -1,5 +1,4 @@
-use borrow.Author.Rules.{rules}
-use Rattle.compare.proofs.CompareReturns.{Comparing, compare_starts, compare_lt, compare_gt, compare_on, compare_more, compare_less, compare_end}
+use Rattle.compare.proofs.CompareReturns.{Comparing}
 use Prim.Native.Nat.{◌-◌}
 use Rattle.compare.proofs.compare_bytes.Given as goal
 

@@ -1,4 +1,3 @@
-use borrow.Author.Rules.{rules}
 use Rattle.compare.proofs.CompareReturns.{upto_less, upto_same, upto_more}
 use Rattle.compare.proofs.is_upto.Goals as goal
 

@@ -1,9 +1,7 @@
 use borrow.Author.Rules.{rules}
-use Prim.Native.Nat.{◌-◌, ◌≤◌}
+use Prim.Native.Nat.{◌-◌}
 use native.Mathlib.Omega.{arith}
-use mathlib.Core.Path.{◌≡◌}
-use lib.ListN.{length}
-use Rattle.container.proofs.Clearing.{Cleared, clear_start, clear_more, clear_done}
+use Rattle.container.proofs.Clearing.{clear_start, clear_more, clear_done}
 use Rattle.container.proofs.clear.Goals as goal
 
 ruleset laws = (clear_start, clear_more, clear_done, rules)

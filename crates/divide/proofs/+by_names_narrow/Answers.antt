@@ -1,13 +1,9 @@
-use Prim.Native.Nat.{ℕ, ◌<◌}
-use borrow.Author.Rules.{rules}
-use Prim.Native.Nat.{◌+◌, ◌-◌, ◌*◌}
+use Prim.Native.Nat.{◌-◌}
 use native.Mathlib.Omega.{arith}
 use mathlib.Core.Path.{refl, sym}
-use lib.ListN.{length}
-use Rattle.divide.proofs.DepthLaws.{bits}
 use Rattle.divide.proofs.NarrowReturns.{narrow_few, narrow_one, narrow_reach, narrow_on, narrow_astride}
 use Rattle.divide.proofs.NarrowReturns.{lent_few, lent_less, lent_alike, divided_length, narrow_divided}
-use Rattle.divide.proofs.NarrowReturns.{Narrowing, turns_start, turn_length, turn_depth, turn_less, turns_on, turns_end}
+use Rattle.divide.proofs.NarrowReturns.{turns_start, turn_length, turn_depth, turn_less, turns_on, turns_end}
 use Rattle.divide.proofs.+by_names_narrow.Goals as goal
 
 -- a turn lends half of what it was lent, or less: so the calls stand no deeper than twice the binary digits of the table's length
@@ -22,11 +18,10 @@ pub by_names-slice_bounds-narrow-end-in-loop-count : goal.by_names-slice_bounds-
 by_names-slice_bounds-narrow-end-in-loop-count t c = sym (turn_length _ _ _ _ _ _ c.loop-count.invariant)
 
 pub by_names-narrow-rest-requires : goal.by_names-narrow-rest-requires
-by_names-narrow-rest-requires t c =
-    (
-      omega (arith, turn_depth _ _ _ _ _ _ c.loop-count.invariant),
-      (omega (arith, turn_length _ _ _ _ _ _ c.loop-count.invariant), c.loop-count.invariant.alike),
-    )
+by_names-narrow-rest-requires t c = (
+  omega (arith, turn_depth _ _ _ _ _ _ c.loop-count.invariant),
+  (omega (arith, turn_length _ _ _ _ _ _ c.loop-count.invariant), c.loop-count.invariant.alike),
+)
 
 pub by_names-loop-count-smaller : goal.by_names-loop-count-smaller
 by_names-loop-count-smaller t c = turn_less _ _ _ _ _ _ c.loop-count.invariant _ _ _ _ c.narrow-rest.ensures

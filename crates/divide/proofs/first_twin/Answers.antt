@@ -1,4 +1,3 @@
-use borrow.Author.Rules.{rules}
 use native.Mathlib.Omega.{arith}
 use mathlib.Core.Path.{sym}
 use Rattle.divide.proofs.DivideReturns.{fit_alike, lent_length, divide_few, divide_unfit, divide_done}

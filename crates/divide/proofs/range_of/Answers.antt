@@ -1,8 +1,7 @@
 use borrow.Author.Rules.{rules}
 use native.Mathlib.Omega.{arith}
 use Prim.Native.Nat.{◌-◌}
-use lib.ListN.{length}
-use Rattle.divide.proofs.RangeReturns.{Ranging, range_starts, range_on, range_ends}
+use Rattle.divide.proofs.RangeReturns.{range_starts, range_on, range_ends}
 use Rattle.divide.proofs.DigitLaws.{reach_at}
 use Rattle.divide.proofs.range_of.Goals as goal
 

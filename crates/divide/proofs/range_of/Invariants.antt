@@ -1,9 +1,6 @@
-use borrow.Author.Rules.{rules}
-use native.Mathlib.Omega.{arith}
 use Prim.Native.Nat.{◌-◌}
 use lib.ListN.{length}
-use Rattle.divide.proofs.RangeReturns.{Ranging, range_starts, range_on, range_ends}
-use Rattle.divide.proofs.DigitLaws.{reach_at}
+use Rattle.divide.proofs.RangeReturns.{Ranging}
 use Rattle.divide.proofs.range_of.Given as goal
 
 abbrev pub invariant-loop-i : goal.invariant-loop-i

@@ -1,4 +1,3 @@
-use borrow.Author.Rules.{rules}
 use Rattle.divide.proofs.DivideReturns.{settle_is}
 use Rattle.divide.proofs.settle.Goals as goal
 

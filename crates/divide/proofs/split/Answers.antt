@@ -1,8 +1,7 @@
 use borrow.Author.Rules.{rules}
 use native.Mathlib.Omega.{arith}
 use Prim.Native.Nat.{◌-◌}
-use lib.ListN.{length}
-use Rattle.divide.proofs.SplitReturns.{counted_few, Splitting, split_starts, split_length, split_asks, split_within, split_on, split_ends}
+use Rattle.divide.proofs.SplitReturns.{counted_few, split_starts, split_length, split_asks, split_within, split_on, split_ends}
 use Rattle.divide.proofs.split.Goals as goal
 
 pub loop-i-init : goal.loop-i-init

@@ -1,7 +1,6 @@
 -- `encode::lead` meets its contract. Assumes nothing.
 use Prim.Native.Nat.{◌^◌}
 use native.Mathlib.Nat.{div-le_self}
-use borrow.Author.Rules.{rules}
 use Rattle.number.proofs.VarUIntLaws.{lead_is}
 use Rattle.encode.proofs.lead.Goals as goal
 

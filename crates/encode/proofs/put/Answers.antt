@@ -1,7 +1,6 @@
 -- `encode::put` meets its contract. Assumes nothing.
 use Prim.Native.Nat.{◌+◌}
 use native.Mathlib.Omega.{arith}
-use borrow.Author.Rules.{rules}
 use Rattle.number.proofs.VarUIntLaws.{needed_most}
 use Rattle.encode.proofs.PutLaws.{first_fits, put_none, put_done}
 use Rattle.encode.proofs.put.Goals as goal

@@ -1,6 +1,6 @@
 use native.Mathlib.Omega.{arith}
 use borrow.Author.Rules.{rules}
-use Rattle.encode.proofs.PutLaws.{Scattered, scattered_start, scattered_again, scattered_end, scattered_length}
+use Rattle.encode.proofs.PutLaws.{scattered_start, scattered_again, scattered_end, scattered_length}
 use Rattle.encode.proofs.scatter.Goals as goal
 
 ruleset laws = (scattered_start, scattered_length, rules)

@@ -1,7 +1,5 @@
 -- `encode::scatter` meets its contract. The loop's invariant: the bytes behind `at + i` are put. Assumes nothing.
-use native.Mathlib.Omega.{arith}
-use borrow.Author.Rules.{rules}
-use Rattle.encode.proofs.PutLaws.{Scattered, scattered_start, scattered_again, scattered_end, scattered_length}
+use Rattle.encode.proofs.PutLaws.{Scattered}
 use Rattle.encode.proofs.scatter.Given as goal
 
 abbrev pub invariant-loop-i : goal.invariant-loop-i

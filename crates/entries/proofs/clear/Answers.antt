@@ -1,9 +1,6 @@
 use borrow.Author.Rules.{rules}
-use Prim.Native.Nat.{◌-◌, ◌≤◌}
 use native.Mathlib.Omega.{arith}
-use mathlib.Core.Path.{◌≡◌}
-use lib.ListN.{length}
-use Rattle.entries.proofs.ClearReturns.{Cleared, clear_starts, clear_on, clear_ends}
+use Rattle.entries.proofs.ClearReturns.{clear_starts, clear_on, clear_ends}
 use Rattle.entries.proofs.clear.Goals as goal
 
 ruleset laws = (clear_starts, clear_on, clear_ends, rules)

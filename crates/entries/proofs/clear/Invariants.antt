@@ -1,9 +1,7 @@
-use borrow.Author.Rules.{rules}
 use Prim.Native.Nat.{◌-◌, ◌≤◌}
-use native.Mathlib.Omega.{arith}
 use mathlib.Core.Path.{◌≡◌}
 use lib.ListN.{length}
-use Rattle.entries.proofs.ClearReturns.{Cleared, clear_starts, clear_on, clear_ends}
+use Rattle.entries.proofs.ClearReturns.{Cleared}
 use Rattle.entries.proofs.clear.Given as goal
 
 abbrev pub invariant-loop-i : goal.invariant-loop-i

@@ -1,4 +1,3 @@
-use borrow.Author.Rules.{rules}
 use mathlib.Core.Path.{ap, sym}
 use Rattle.faults.specs.Noted.{asks}
 use Rattle.faults.proofs.is_asked.Goals as goal

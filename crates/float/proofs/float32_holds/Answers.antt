@@ -1,5 +1,4 @@
 -- `float32_holds` is the float rule: the zeros that 2^52 + f ends in say which powers of 2 divide it.
-use borrow.Author.Rules.{rules}
 use Rattle.float.proofs.Zeros.{zeros_fit, sum_fits, by_zeros}
 use Rattle.float.proofs.float32_holds.Goals as goal
 

@@ -1,5 +1,4 @@
 -- `narrow` converts what passes the rule's test: it is no NaN, and Float32 holds it.
-use borrow.Author.Rules.{rules}
 use Rattle.float.proofs.Casts.{wide_bits_good, wide_value_good, narrows, narrowed_to, narrowed_no}
 use Rattle.float.proofs.narrow.Goals as goal
 

@@ -1,5 +1,4 @@
 -- `widen` keeps a NaN's sign and moves its fraction up, and any other number is the machine's own conversion.
-use borrow.Author.Rules.{rules}
 use Rattle.float.proofs.Casts.{nan_widened, bits_good, value_good, widens, number_widened}
 use Rattle.float.proofs.widen.Goals as goal
 

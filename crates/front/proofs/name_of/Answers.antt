@@ -1,4 +1,3 @@
-use borrow.Author.Rules.{rules}
 use mathlib.Core.Path.{refl}
 use Rattle.front.proofs.FrontReturns.{front_shared}
 use Rattle.front.proofs.name_of.Goals as goal

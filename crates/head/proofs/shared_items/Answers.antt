@@ -36,14 +36,13 @@ pub note-requires : goal.note-requires
 note-requires c = search laws
 
 pub shared_byte-requires : goal.shared_byte-requires
-shared_byte-requires c =
-    (
-      count_in_law c.args.begin c.args.end
-          c.args.part.now c.requires.0
-          c.requires.1 _ c.read.ensures _ _ _
-          c.in-Whole.is,
-      c.requires.1,
-    )
+shared_byte-requires c = (
+  count_in_law c.args.begin c.args.end
+      c.args.part.now c.requires.0
+      c.requires.1 _ c.read.ensures _ _ _
+      c.in-Whole.is,
+  c.requires.1,
+)
 
 pub returns-in-Cut : goal.returns-in-Cut
 returns-in-Cut c = search laws

@@ -1,10 +1,7 @@
-use borrow.Author.Rules.{rules}
 use Prim.Native.Nat.{◌-◌}
-use native.Mathlib.Omega.{arith}
-use mathlib.Core.Path.{◌≡◌, refl, sym, ◌∙◌}
-use lib.ListN.{length, drop, get_or}
+use mathlib.Core.Path.{◌≡◌}
+use lib.ListN.{length, drop}
 use Rattle.hexadecimal.specs.Typing.{fed}
-use Rattle.hexadecimal.proofs.TypingLaws.{fed_on, fed_end, keeps_length}
 use Rattle.hexadecimal.proofs.feed.Given as goal
 
 abbrev pub invariant-loop-i : goal.invariant-loop-i

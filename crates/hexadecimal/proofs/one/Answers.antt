@@ -1,4 +1,3 @@
-use borrow.Author.Rules.{rules}
 use Rattle.hexadecimal.proofs.TypingLaws.{one_wrong, one_feed, one_another, one_first, one_second}
 use Rattle.hexadecimal.proofs.one.Goals as goal
 

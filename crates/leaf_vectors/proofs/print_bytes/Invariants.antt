@@ -1,7 +1,6 @@
 -- `leaf_vectors::print_bytes` is safe and ends. Assumes nothing of its own.
 use Prim.Native.Nat.{◌-◌, ◌≤◌}
 use lib.ListN.{length}
-use borrow.Author.Rules.{rules}
 use Rattle.leaf_vectors.proofs.print_bytes.Given as goal
 
 abbrev pub invariant-loop-i : goal.invariant-loop-i

@@ -1,16 +1,16 @@
 use native.Mathlib.Omega.{arith}
-use mathlib.Core.Path.{refl, ◌≡◌, ◌∙◌}
+use mathlib.Core.Path.{refl, ◌∙◌}
 use borrow.Author.Rules.{rules}
 use Rattle.measure.proofs.SmallLaws.{plain_by}
 use Rattle.measure.proofs.FieldCases.{contents_lent, payload_object, payload_array, leaf_sum, leaf_is}
-use Prim.Native.Nat.{ℕ, ◌-◌}
+use Prim.Native.Nat.{◌-◌}
 use mathlib.Core.Bool.{false, true}
-use lib.ListN.{length}
-use Rattle.measure.proofs.LoopReturns.{Standing, standing_starts, stands_few, stands_next, stands_more, more_sum, more_less, Met, met, met_deep, met_payload, met_next, met_after, met_leaf, leaf_fits, leaf_bad, leaf_good, items_end, items_close, items_bad, items_cut, stands_low, fields_end, fields_closed, fields_close, fields_barred, fields_bad, fields_cut, names_next, noted, met_held, met_scaled, same_table, names_over}
-use Rattle.measure.proofs.NameLaws.{NamesRead, names_start}
+use Rattle.measure.proofs.LoopReturns.{standing_starts, stands_few, stands_next, stands_more, more_sum, more_less, met, met_deep, met_payload, met_next, met_after, met_leaf, leaf_fits, leaf_bad, leaf_good, items_end, items_close, items_bad, items_cut, stands_low, fields_end, fields_closed, fields_close, fields_barred, fields_bad, fields_cut, names_next, noted, met_held, met_scaled, same_table, names_over}
+use Rattle.measure.proofs.NameLaws.{names_start}
 use Rattle.measure.proofs.+measure_fields_measure_items_measure_payload.Goals as goal
 
 ruleset starts_items = (standing_starts, rules)
+
 ruleset starts_fields = (standing_starts, names_start, rules)
 
 pub measure_payload-measure_fields-requires : goal.measure_payload-measure_fields-requires
@@ -121,8 +121,7 @@ measure_items-loop-p-smaller-in-Read-leaf_at t c =
 
 pub measure_items-loop-p-preserved-in-Read-leaf_at : goal.measure_items-loop-p-preserved-in-Read-leaf_at
 measure_items-loop-p-preserved-in-Read-leaf_at t c =
-    let g = met c.loop-p.invariant.2 c.loop-p-test.true c.if-list-p-eq0.false c.front_at.ensures c.in-Read.is in
-    (
+    let g = met c.loop-p.invariant.2 c.loop-p-test.true c.if-list-p-eq0.false c.front_at.ensures c.in-Read.is in (
       c.loop-p.invariant.0,
       c.loop-p.invariant.1,
       stands_more g (met_leaf g

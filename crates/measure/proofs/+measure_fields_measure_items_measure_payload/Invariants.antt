@@ -1,14 +1,10 @@
 -- The first pass, its three functions that call each other: each call inside has fewer levels left, or a payload's contents.
-use native.Mathlib.Omega.{arith}
-use mathlib.Core.Path.{refl, ◌≡◌, ◌∙◌}
-use borrow.Author.Rules.{rules}
-use Rattle.measure.proofs.SmallLaws.{plain_by}
-use Rattle.measure.proofs.FieldCases.{contents_lent, payload_object, payload_array, leaf_sum, leaf_is}
-use Prim.Native.Nat.{ℕ, ◌-◌, ◌+◌, ◌*◌}
+use mathlib.Core.Path.{◌≡◌}
+use Prim.Native.Nat.{◌-◌, ◌+◌, ◌*◌}
 use mathlib.Core.Bool.{false, true}
 use lib.ListN.{length}
-use Rattle.measure.proofs.LoopReturns.{Standing, standing_starts, stands_few, stands_next, stands_more, more_sum, more_less, Met, met, met_deep, met_payload, met_next, met_after, met_leaf, leaf_fits, leaf_bad, leaf_good, items_end, items_close, items_bad, items_cut, stands_low, fields_end, fields_closed, fields_close, fields_barred, fields_bad, fields_cut, names_next, noted, met_held, met_scaled, same_table, names_over}
-use Rattle.measure.proofs.NameLaws.{NamesRead, names_start}
+use Rattle.measure.proofs.LoopReturns.{Standing}
+use Rattle.measure.proofs.NameLaws.{NamesRead}
 use Rattle.measure.proofs.+measure_fields_measure_items_measure_payload.Given as goal
 
 abbrev pub decreases-measure_fields : goal.decreases-measure_fields

@@ -10,12 +10,11 @@ pub returns-then-list-eq0 : goal.returns-then-list-eq0
 returns-then-list-eq0 c = s_shut _ _ _ _ (search rules) (search rules) _ (all_zero _ _ c.clear.ensures)
 
 pub measure_top-measured-requires : goal.measure_top-measured-requires
-measure_top-measured-requires c =
-    (
-      search rules,
-      lent_start _ c.type_inv.list
-          c.requires,
-    )
+measure_top-measured-requires c = (
+  search rules,
+  lent_start _ c.type_inv.list
+      c.requires,
+)
 
 pub returns-in-Refused : goal.returns-in-Refused
 returns-in-Refused c =

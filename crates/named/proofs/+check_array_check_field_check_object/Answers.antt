@@ -1,15 +1,14 @@
-use Prim.Native.Nat.{ℕ, ◌<◌}
 use borrow.Author.Rules.{rules}
 use native.Mathlib.Omega.{arith}
-use Prim.Native.Nat.{◌+◌, ◌*◌, ◌-◌}
+use Prim.Native.Nat.{◌-◌}
 use mathlib.Core.Path.{refl}
 use Rattle.checks.proofs.FieldCases.{fields_in_law, items_in_law}
 use Rattle.checks.proofs.SizedItems.{sized_items_law}
 use Rattle.named.proofs.NamedCases.{fields_short, items_short, rest_short, kept}
 use Rattle.named.proofs.NamedCases.{named_deep, named_stop, named_leaf, named_fields, named_items}
-use Rattle.named.proofs.ObjectLaws.{Object, object_start, object_kept, object_out, object_held, back_kept}
+use Rattle.named.proofs.ObjectLaws.{object_start, object_kept, object_out, object_held, back_kept}
 use Rattle.named.proofs.ObjectLaws.{object_fault, object_inside, object_name, object_starts, object_step, object_end_law, object_lent}
-use Rattle.named.proofs.ArrayLaws.{Array, array_start, array_kept, array_back, array_at}
+use Rattle.named.proofs.ArrayLaws.{array_start, array_kept, array_back, array_at}
 use Rattle.named.proofs.ArrayLaws.{array_fault, array_inside, array_step, array_left, array_end_law}
 use Rattle.named.proofs.+check_array_check_field_check_object.Goals as goal
 
@@ -266,37 +265,35 @@ check_object-shape_of-table-in-Stop t c =
     c.check_field.ensures.1 refl).is
 
 pub check_object-returns-in-Stop : goal.check_object-returns-in-Stop
-check_object-returns-in-Stop t c =
-    (
-      object_fault _ _ _ _ _ _ _ _ _ _ _ _ c.loop-at.invariant _
-          c.held-held.ensures _ _
-          c.check_field.ensures.1 refl (omega arith) (omega arith) _
-          c.check_field.ensures.0 _ c.in-Stop.is,
-      back_kept _ _ _ _ _ _ _ _ _ _ _ _
-          c.loop-at.invariant _
-          c.held-held.ensures _ _
-          c.check_field.ensures.1 refl,
-    )
+check_object-returns-in-Stop t c = (
+  object_fault _ _ _ _ _ _ _ _ _ _ _ _ c.loop-at.invariant _
+      c.held-held.ensures _ _
+      c.check_field.ensures.1 refl (omega arith) (omega arith) _
+      c.check_field.ensures.0 _ c.in-Stop.is,
+  back_kept _ _ _ _ _ _ _ _ _ _ _ _
+      c.loop-at.invariant _
+      c.held-held.ensures _ _
+      c.check_field.ensures.1 refl,
+)
 
 pub check_object-enum_known-kind : goal.check_object-enum_known-kind
 check_object-enum_known-kind t c = search object_laws
 
 pub check_object-note-notes-requires : goal.check_object-note-notes-requires
-check_object-note-notes-requires t c =
-    (
-      c.requires,
-      omega arith,
-      object_name _ _ _ _ _ _ _ _ _ _ _ _
-          c.loop-at.invariant _
-          c.held-held.ensures _ _
-          c.check_field.ensures.1 refl (omega arith) (omega arith) _
-          c.check_field.ensures.0 _ _ _ _ _ c.in-Read.is,
-      object_starts _ _ _ _ _ _ _
-          _ _ _ _ _ c.loop-at.invariant _
-          c.held-held.ensures _ _
-          c.check_field.ensures.1 refl (omega arith) (omega arith) _
-          c.check_field.ensures.0 _ _ _ _ _ c.in-Read.is,
-    )
+check_object-note-notes-requires t c = (
+  c.requires,
+  omega arith,
+  object_name _ _ _ _ _ _ _ _ _ _ _ _
+      c.loop-at.invariant _
+      c.held-held.ensures _ _
+      c.check_field.ensures.1 refl (omega arith) (omega arith) _
+      c.check_field.ensures.0 _ _ _ _ _ c.in-Read.is,
+  object_starts _ _ _ _ _ _ _
+      _ _ _ _ _ c.loop-at.invariant _
+      c.held-held.ensures _ _
+      c.check_field.ensures.1 refl (omega arith) (omega arith) _
+      c.check_field.ensures.0 _ _ _ _ _ c.in-Read.is,
+)
 
 pub check_object-add-run-requires : goal.check_object-add-run-requires
 check_object-add-run-requires t c = search object_laws
@@ -340,12 +337,11 @@ check_object-shape_of-table t c =
     c.first_twin-first.ensures).is
 
 pub check_object-returns : goal.check_object-returns
-check_object-returns t c =
-    (
-      object_end_law _ _ _ _ _ _ _ _ _ _ _ _ c.loop-at.invariant
-          c.requires (omega arith) _ _
-          c.first_twin-first.ensures
-          _ c.end_object.ensures,
-      object_lent _ _ _ _ _ _ _ _ _ _ _ _ c.loop-at.invariant _ _
-          c.first_twin-first.ensures,
-    )
+check_object-returns t c = (
+  object_end_law _ _ _ _ _ _ _ _ _ _ _ _ c.loop-at.invariant
+      c.requires (omega arith) _ _
+      c.first_twin-first.ensures
+      _ c.end_object.ensures,
+  object_lent _ _ _ _ _ _ _ _ _ _ _ _ c.loop-at.invariant _ _
+      c.first_twin-first.ensures,
+)

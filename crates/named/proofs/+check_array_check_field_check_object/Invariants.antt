@@ -1,16 +1,6 @@
-use Prim.Native.Nat.{ℕ, ◌<◌}
-use borrow.Author.Rules.{rules}
-use native.Mathlib.Omega.{arith}
 use Prim.Native.Nat.{◌+◌, ◌*◌, ◌-◌}
-use mathlib.Core.Path.{refl}
-use Rattle.checks.proofs.FieldCases.{fields_in_law, items_in_law}
-use Rattle.checks.proofs.SizedItems.{sized_items_law}
-use Rattle.named.proofs.NamedCases.{fields_short, items_short, rest_short, kept}
-use Rattle.named.proofs.NamedCases.{named_deep, named_stop, named_leaf, named_fields, named_items}
-use Rattle.named.proofs.ObjectLaws.{Object, object_start, object_kept, object_out, object_held, back_kept}
-use Rattle.named.proofs.ObjectLaws.{object_fault, object_inside, object_name, object_starts, object_step, object_end_law, object_lent}
-use Rattle.named.proofs.ArrayLaws.{Array, array_start, array_kept, array_back, array_at}
-use Rattle.named.proofs.ArrayLaws.{array_fault, array_inside, array_step, array_left, array_end_law}
+use Rattle.named.proofs.ObjectLaws.{Object}
+use Rattle.named.proofs.ArrayLaws.{Array}
 use Rattle.named.proofs.+check_array_check_field_check_object.Given as goal
 
 abbrev pub decreases-check_array : goal.decreases-check_array

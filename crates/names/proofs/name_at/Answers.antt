@@ -1,5 +1,4 @@
 -- What was met behind a position, moved there. Nothing passes the part, so the sums fit.
-use borrow.Author.Rules.{rules}
 use native.Mathlib.Omega.{arith}
 use Rattle.names.proofs.NameFound.{name_at_past, name_at_none, name_at_some, name_at_inside}
 use Rattle.names.proofs.name_at.Goals as goal

@@ -1,5 +1,4 @@
 -- The three kinds of what is met have their name in the same way.
-use borrow.Author.Rules.{rules}
 use mathlib.Core.Path.{sym, ap, ◌∙◌}
 use Rattle.names.specs.FieldNames.{name_of}
 use Rattle.names.proofs.name_of.Goals as goal

@@ -1,4 +1,3 @@
-use borrow.Author.Rules.{rules}
 use Rattle.naming.proofs.NameReturns.{less_it, note_is}
 use Rattle.naming.proofs.note.Goals as goal
 

@@ -1,5 +1,5 @@
 use borrow.Author.Rules.{rules}
-use Rattle.notes.proofs.NoteReturns.{Rise, rise_starts, rise_falls, rise_on, rise_ends}
+use Rattle.notes.proofs.NoteReturns.{rise_starts, rise_falls, rise_on, rise_ends}
 use Rattle.notes.proofs.rise.Goals as goal
 
 ruleset laws = (rise_starts, rise_falls, rise_on, rise_ends, rules)

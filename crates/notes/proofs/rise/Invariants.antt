@@ -1,5 +1,4 @@
-use borrow.Author.Rules.{rules}
-use Rattle.notes.proofs.NoteReturns.{Rise, rise_starts, rise_falls, rise_on, rise_ends}
+use Rattle.notes.proofs.NoteReturns.{Rise}
 use Rattle.notes.proofs.rise.Given as goal
 
 abbrev pub invariant-loop-i : goal.invariant-loop-i

@@ -1,5 +1,4 @@
 -- `number::bound` meets its contract. Assumes nothing.
-use borrow.Author.Rules.{rules}
 use Rattle.number.proofs.VarUIntLaws.{bound_is}
 use Rattle.number.proofs.bound.Goals as goal
 

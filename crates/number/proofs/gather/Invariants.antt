@@ -1,13 +1,9 @@
 -- `number::gather` meets its contract. The loop's invariant: what is read so far and the bytes that are left make the number,
 -- so that no part of it is greater. Assumes nothing.
-use Prim.Native.Nat.{ℕ, ◌+◌, ◌-◌, ◌*◌, ◌≤◌, ◌<◌}
-use native.Mathlib.Omega.{arith}
-use mathlib.Core.Path.{◌≡◌, sym, ◌∙◌}
-use mathlib.Core.List.{List}
-use borrow.Author.Rules.{rules}
-use lib.ListN.{length, take, drop, get_or}
+use Prim.Native.Nat.{◌-◌, ◌≤◌}
+use mathlib.Core.Path.{◌≡◌}
+use lib.ListN.{take, drop}
 use Rattle.number.specs.BigEndian.{behind}
-use Rattle.number.proofs.BigEndianLaws.{behind_step, behind_fits}
 use Rattle.number.proofs.gather.Given as goal
 
 abbrev pub invariant-loop-i : goal.invariant-loop-i

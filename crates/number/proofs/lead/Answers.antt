@@ -1,7 +1,6 @@
 -- `number::lead` meets its contract. Assumes nothing.
 use Prim.Native.Nat.{◌^◌}
 use native.Mathlib.Nat.{div-le_self}
-use borrow.Author.Rules.{rules}
 use Rattle.number.proofs.VarUIntLaws.{lead_is}
 use Rattle.number.proofs.lead.Goals as goal
 

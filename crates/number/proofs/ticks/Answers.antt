@@ -1,7 +1,6 @@
 -- `number::ticks` meets its contract: a number from 2^63 up stands for minus (2^64 - 1 - m plus 1). Assumes nothing.
 use Prim.Native.Nat.{◌-◌, ◌^◌}
 use native.Mathlib.Omega.{arith}
-use borrow.Author.Rules.{rules}
 use borrow.Author.Tests.{lt-ltb, le-ltb}
 use Rattle.number.proofs.MinusLaws.{minus_first, minus_second, minus_is}
 use Rattle.number.proofs.ticks.Goals as goal

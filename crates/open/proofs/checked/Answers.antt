@@ -1,4 +1,3 @@
-use borrow.Author.Rules.{rules}
 use Rattle.open.proofs.OpenLaws.{checked_is}
 use Rattle.open.proofs.checked.Goals as goal
 

@@ -1,4 +1,3 @@
-use Prim.Native.Nat.{ℕ, ◌<◌}
 use borrow.Author.Rules.{rules}
 use native.Mathlib.Omega.{arith}
 use mathlib.Core.Path.{refl}
@@ -12,21 +11,19 @@ pub sort-requires : goal.sort-requires
 sort-requires t c = (omega arith, holds_fewer _ _ _ _ c.requires (omega arith))
 
 pub sort-requires-2 : goal.sort-requires-2
-sort-requires-2 t c =
-    (
-      omega arith,
-      second_lent _ _ _ _ _ _ c.requires (omega arith)
-          c.sort.ensures,
-    )
+sort-requires-2 t c = (
+  omega arith,
+  second_lent _ _ _ _ _ _ c.requires (omega arith)
+      c.sort.ensures,
+)
 
 pub join-requires : goal.join-requires
-join-requires t c =
-    (
-      omega arith,
-      omega arith,
-      both_lent _ _ _ _ _ _ _ _ c.requires (omega arith)
-          c.sort.ensures c.sort-2.ensures refl,
-    )
+join-requires t c = (
+  omega arith,
+  omega arith,
+  both_lent _ _ _ _ _ _ _ _ c.requires (omega arith)
+      c.sort.ensures c.sort-2.ensures refl,
+)
 
 pub shape_of-table : goal.shape_of-table
 shape_of-table t c =

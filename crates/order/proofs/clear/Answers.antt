@@ -1,8 +1,7 @@
 use borrow.Author.Rules.{rules}
 use native.Mathlib.Omega.{arith}
 use Prim.Native.Nat.{◌-◌}
-use lib.ListN.{length}
-use Rattle.order.proofs.CopyReturns.{Clearing, clear_starts, clear_on, clear_ends}
+use Rattle.order.proofs.CopyReturns.{clear_starts, clear_on, clear_ends}
 use Rattle.order.proofs.clear.Goals as goal
 
 pub loop-i-init : goal.loop-i-init

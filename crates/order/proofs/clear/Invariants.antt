@@ -1,8 +1,6 @@
-use borrow.Author.Rules.{rules}
-use native.Mathlib.Omega.{arith}
 use Prim.Native.Nat.{◌-◌}
 use lib.ListN.{length}
-use Rattle.order.proofs.CopyReturns.{Clearing, clear_starts, clear_on, clear_ends}
+use Rattle.order.proofs.CopyReturns.{Clearing}
 use Rattle.order.proofs.clear.Given as goal
 
 abbrev pub invariant-loop-i : goal.invariant-loop-i

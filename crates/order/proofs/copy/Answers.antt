@@ -1,6 +1,6 @@
 use borrow.Author.Rules.{rules}
 use Prim.Native.Nat.{◌-◌}
-use Rattle.order.proofs.CopyReturns.{Copying, copy_starts, copy_on, copy_ends}
+use Rattle.order.proofs.CopyReturns.{copy_starts, copy_on, copy_ends}
 use Rattle.order.proofs.copy.Goals as goal
 
 pub loop-i-init : goal.loop-i-init

@@ -1,6 +1,5 @@
-use borrow.Author.Rules.{rules}
 use Prim.Native.Nat.{◌-◌}
-use Rattle.order.proofs.CopyReturns.{Copying, copy_starts, copy_on, copy_ends}
+use Rattle.order.proofs.CopyReturns.{Copying}
 use Rattle.order.proofs.copy.Given as goal
 
 abbrev pub invariant-loop-i : goal.invariant-loop-i

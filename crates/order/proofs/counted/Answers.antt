@@ -1,4 +1,3 @@
-use borrow.Author.Rules.{rules}
 use native.Mathlib.Omega.{arith}
 use Rattle.order.proofs.KeepReturns.{counted_one, counted_none}
 use Rattle.order.proofs.counted.Goals as goal

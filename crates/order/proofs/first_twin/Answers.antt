@@ -1,7 +1,7 @@
 use borrow.Author.Rules.{rules}
 use native.Mathlib.Omega.{arith}
 use Prim.Native.Nat.{◌-◌}
-use Rattle.order.proofs.TwinReturns.{Finding, find_starts, find_on, find_ends}
+use Rattle.order.proofs.TwinReturns.{find_starts, find_on, find_ends}
 use Rattle.order.proofs.first_twin.Goals as goal
 
 pub loop-i-init : goal.loop-i-init

@@ -1,7 +1,5 @@
-use borrow.Author.Rules.{rules}
-use native.Mathlib.Omega.{arith}
 use Prim.Native.Nat.{◌-◌}
-use Rattle.order.proofs.TwinReturns.{Finding, find_starts, find_on, find_ends}
+use Rattle.order.proofs.TwinReturns.{Finding}
 use Rattle.order.proofs.first_twin.Given as goal
 
 abbrev pub invariant-loop-i : goal.invariant-loop-i

@@ -1,4 +1,3 @@
-use borrow.Author.Rules.{rules}
 use native.Mathlib.Omega.{arith}
 use Rattle.order.proofs.MergeReturns.{second_none, second_by}
 use Rattle.order.proofs.is_second.Goals as goal

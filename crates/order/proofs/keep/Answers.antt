@@ -1,7 +1,7 @@
 use borrow.Author.Rules.{rules}
 use native.Mathlib.Omega.{arith}
 use Prim.Native.Nat.{◌-◌}
-use Rattle.order.proofs.KeepReturns.{Keeping, keep_starts, keep_on, keep_ends, counted_few}
+use Rattle.order.proofs.KeepReturns.{keep_starts, keep_on, keep_ends, counted_few}
 use Rattle.order.proofs.keep.Goals as goal
 
 pub loop-i-init : goal.loop-i-init

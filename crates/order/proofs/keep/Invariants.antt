@@ -1,7 +1,5 @@
-use borrow.Author.Rules.{rules}
-use native.Mathlib.Omega.{arith}
 use Prim.Native.Nat.{◌-◌}
-use Rattle.order.proofs.KeepReturns.{Keeping, keep_starts, keep_on, keep_ends, counted_few}
+use Rattle.order.proofs.KeepReturns.{Keeping}
 use Rattle.order.proofs.keep.Given as goal
 
 abbrev pub invariant-loop-i : goal.invariant-loop-i

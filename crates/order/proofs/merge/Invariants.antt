@@ -1,6 +1,5 @@
-use borrow.Author.Rules.{rules}
 use Prim.Native.Nat.{◌+◌, ◌-◌}
-use Rattle.order.proofs.MergeReturns.{Merging, merge_starts, merge_right, merge_left, merge_ends}
+use Rattle.order.proofs.MergeReturns.{Merging}
 use Rattle.order.proofs.merge.Given as goal
 
 abbrev pub invariant-loop-i : goal.invariant-loop-i

@@ -1,4 +1,3 @@
-use borrow.Author.Rules.{rules}
 use native.Mathlib.Omega.{arith}
 use Rattle.order.proofs.TwinReturns.{next_begins, next_kept, next_other}
 use Rattle.order.proofs.next_least.Goals as goal

@@ -1,4 +1,3 @@
-use borrow.Author.Rules.{rules}
 use Rattle.order.proofs.ArrangeReturns.{all_room, settle_done}
 use Rattle.order.proofs.settle.Goals as goal
 

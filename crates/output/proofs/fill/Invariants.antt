@@ -1,9 +1,7 @@
-use borrow.Author.Rules.{rules}
 use Prim.Native.Nat.{◌-◌, ◌≤◌}
-use native.Mathlib.Omega.{arith}
 use mathlib.Core.Path.{◌≡◌}
 use lib.ListN.{length}
-use Rattle.output.proofs.CopyReturns.{Copied, copied_start, copied_more, copied_end}
+use Rattle.output.proofs.CopyReturns.{Copied}
 use Rattle.output.proofs.fill.Given as goal
 
 abbrev pub invariant-loop-i : goal.invariant-loop-i

@@ -1,5 +1,4 @@
-use borrow.Author.Rules.{rules}
-use Rattle.pairs.proofs.PairReturns.{Pairing, pair_starts, pair_inside, pair_on, pair_ends}
+use Rattle.pairs.proofs.PairReturns.{Pairing}
 use Prim.Native.Nat.{◌-◌}
 use Rattle.pairs.proofs.first_twin.Given as goal
 

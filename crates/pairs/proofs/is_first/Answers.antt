@@ -1,4 +1,3 @@
-use borrow.Author.Rules.{rules}
 use native.Mathlib.Omega.{arith}
 use Rattle.pairs.proofs.PairReturns.{first_less, first_same, first_more, first_later}
 use Rattle.pairs.proofs.is_first.Goals as goal

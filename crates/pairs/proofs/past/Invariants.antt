@@ -1,5 +1,4 @@
-use borrow.Author.Rules.{rules}
-use Rattle.pairs.proofs.PairReturns.{Past, past_starts, past_on, past_ends}
+use Rattle.pairs.proofs.PairReturns.{Past}
 use Prim.Native.Nat.{◌-◌}
 use Rattle.pairs.proofs.past.Given as goal
 

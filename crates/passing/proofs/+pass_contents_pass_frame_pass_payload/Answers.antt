@@ -1,9 +1,7 @@
-use Prim.Native.Nat.{ℕ, ◌+◌, ◌-◌, ◌*◌, ◌≤◌, ◌<◌}
+use Prim.Native.Nat.{◌+◌, ◌-◌}
 use borrow.Author.Rules.{rules}
 use native.Mathlib.Omega.{arith}
-use mathlib.Core.Path.{◌≡◌, refl, sym, ◌∙◌}
-use lib.ListN.{length}
-use Rattle.passing.specs.Code.{contents_end}
+use mathlib.Core.Path.{refl, sym, ◌∙◌}
 use Rattle.passing.proofs.PartReturns.{name_inside}
 use Rattle.passing.proofs.FrameReturns.{contents_end_law, contents_close, contents_stuck, contents_less, contents_on}
 use Rattle.passing.proofs.FrameReturns.{payload_object, payload_array, payload_leaf, frame_deep, frame_unknown, frame_unnamed, frame_ends}

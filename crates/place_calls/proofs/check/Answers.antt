@@ -1,4 +1,3 @@
-use borrow.Author.Rules.{rules}
 use mathlib.Core.Path.{ap, ◌∙◌}
 use Rattle.places.specs.Places.{checked}
 use Rattle.place_replies.specs.PlaceReply.{checked_reply}

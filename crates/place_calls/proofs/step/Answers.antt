@@ -1,4 +1,3 @@
-use borrow.Author.Rules.{rules}
 use mathlib.Core.Path.{◌∙◌}
 use Rattle.place_replies.specs.PlaceReply.{step_reply}
 use Rattle.replies.proofs.ReplyLaws.{told_of_law}

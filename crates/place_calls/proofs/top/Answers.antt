@@ -1,4 +1,3 @@
-use borrow.Author.Rules.{rules}
 use Rattle.place_replies.specs.PlaceReply.{top_reply}
 use Rattle.replies.proofs.ReplyLaws.{told_of_law}
 use Rattle.place_calls.proofs.top.Goals as goal

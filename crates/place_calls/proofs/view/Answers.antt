@@ -1,4 +1,3 @@
-use borrow.Author.Rules.{rules}
 use mathlib.Core.Path.{ap, ◌∙◌}
 use Rattle.places.specs.Places.{part}
 use Rattle.place_replies.specs.PlaceReply.{part_reply}

@@ -1,4 +1,3 @@
-use borrow.Author.Rules.{rules}
 use mathlib.Core.Path.{refl, ap}
 use lib.ListN.{set}
 use Rattle.place_replies.specs.PlaceReply.{step_reply}

@@ -1,4 +1,3 @@
-use borrow.Author.Rules.{rules}
 use mathlib.Core.Path.{sym, ap, ◌∙◌}
 use Rattle.places.specs.Placed.{placed}
 use Rattle.places.proofs.placed.Goals as goal

@@ -1,6 +1,4 @@
-use Prim.Native.Nat.{ℕ, ◌<◌}
 use native.Mathlib.Omega.{arith}
-use borrow.Author.Rules.{rules}
 use lib.ListN.{length-set}
 use Rattle.printing.proofs.TextLaws.{decimal_none, decimal_one, decimal_more, put_length}
 use Rattle.printing.proofs.+put_decimal.Goals as goal
@@ -15,8 +13,11 @@ bounds-text-at t c = omega (arith, c.requires)
 
 pub returns-then-n-lt10 : goal.returns-then-n-lt10
 returns-then-n-lt10 t c =
-    record { text_after = decimal_one c.args.digits c.args.n _ c.args.at
-          c.if-digits-eq0.false c.if-n-lt10.true; upper_bound = omega arith }
+    record {
+      text_after = decimal_one c.args.digits c.args.n _ c.args.at
+          c.if-digits-eq0.false c.if-n-lt10.true;
+      upper_bound = omega arith;
+    }
 
 pub put_decimal-last-requires : goal.put_decimal-last-requires
 put_decimal-last-requires t c = (omega (arith, c.requires), omega (arith, c.requires))
@@ -38,7 +39,10 @@ shape_of-text t c = simp length-set (put_length _ _ _ _ _ c.put_decimal-last.ens
 
 pub returns : goal.returns
 returns t c =
-    record { text_after = decimal_more c.args.digits
+    record {
+      text_after = decimal_more c.args.digits
           c.args.n _ c.args.at
           c.if-digits-eq0.false c.if-n-lt10.false _ _
-          c.put_decimal-last.ensures.text_after; upper_bound = omega (arith, c.put_decimal-last.ensures.upper_bound, c.if-digits-eq0.false) }
+          c.put_decimal-last.ensures.text_after;
+      upper_bound = omega (arith, c.put_decimal-last.ensures.upper_bound, c.if-digits-eq0.false);
+    }

@@ -1,4 +1,3 @@
-use borrow.Author.Rules.{rules}
 use native.Mathlib.Omega.{arith}
 use Rattle.printing.proofs.TextLaws.{put_then, put_next, put_length, bytes_length}
 use Rattle.printing.proofs.encoding_in.Goals as goal

@@ -1,5 +1,4 @@
 use borrow.Author.Rules.{rules}
-use borrow.Author.Tests.{lt-ltb, le-ltb}
 use Rattle.printing.proofs.TextLaws.{digit_low, digit_high}
 use Rattle.printing.proofs.hex_digit.Goals as goal
 

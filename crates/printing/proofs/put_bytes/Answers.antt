@@ -1,11 +1,7 @@
-use Prim.Native.Nat.{◌-◌, ◌≤◌}
+use Prim.Native.Nat.{◌-◌}
 use native.Mathlib.Omega.{arith}
-use borrow.Author.Rules.{rules}
-use mathlib.Core.Path.{◌≡◌, refl, ◌∙◌}
-use lib.ListN.{length, take, length-set}
-use lib.Seq.{sets}
-use Rattle.format.specs.Encoding.{concat}
-use Rattle.frames.specs.Program.{hex_byte}
+use mathlib.Core.Path.{refl}
+use lib.ListN.{length-set}
 use Rattle.printing.proofs.TextLaws.{bytes_on, bytes_end}
 use Rattle.printing.proofs.put_bytes.Goals as goal
 
@@ -43,14 +39,13 @@ pub loop-i-smaller : goal.loop-i-smaller
 loop-i-smaller c = omega arith
 
 pub loop-i-preserved : goal.loop-i-preserved
-loop-i-preserved c =
-    (
-      omega arith,
-      simp length-set c.loop-i.invariant.1,
-      bytes_on _ _ _ _ _ _
-          c.loop-i-test.true c.loop-i.invariant.2 c.hex_digit.ensures
-          c.hex_digit-in-loop-i.ensures,
-    )
+loop-i-preserved c = (
+  omega arith,
+  simp length-set c.loop-i.invariant.1,
+  bytes_on _ _ _ _ _ _
+      c.loop-i-test.true c.loop-i.invariant.2 c.hex_digit.ensures
+      c.hex_digit-in-loop-i.ensures,
+)
 
 pub overflow_mul-result : goal.overflow_mul-result
 overflow_mul-result c = omega arith

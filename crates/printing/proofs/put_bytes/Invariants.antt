@@ -1,13 +1,10 @@
 -- `printing::put_bytes` meets its contract. The loop's invariant: the first `i` bytes are put. Assumes nothing.
 use Prim.Native.Nat.{◌-◌, ◌≤◌}
-use native.Mathlib.Omega.{arith}
-use borrow.Author.Rules.{rules}
-use mathlib.Core.Path.{◌≡◌, refl, ◌∙◌}
-use lib.ListN.{length, take, length-set}
+use mathlib.Core.Path.{◌≡◌}
+use lib.ListN.{length, take}
 use lib.Seq.{sets}
 use Rattle.format.specs.Encoding.{concat}
 use Rattle.frames.specs.Program.{hex_byte}
-use Rattle.printing.proofs.TextLaws.{bytes_on, bytes_end}
 use Rattle.printing.proofs.put_bytes.Given as goal
 
 abbrev pub invariant-loop-i : goal.invariant-loop-i

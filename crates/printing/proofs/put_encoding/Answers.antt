@@ -1,4 +1,3 @@
-use borrow.Author.Rules.{rules}
 use native.Mathlib.Omega.{arith}
 use Rattle.printing.proofs.TextLaws.{put_none, put_room}
 use Rattle.printing.proofs.put_encoding.Goals as goal

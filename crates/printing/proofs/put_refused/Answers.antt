@@ -1,4 +1,3 @@
-use borrow.Author.Rules.{rules}
 use Rattle.printing.proofs.TextLaws.{put_none, put_room}
 use Rattle.printing.proofs.put_refused.Goals as goal
 

@@ -1,9 +1,7 @@
-use Prim.Native.Nat.{◌-◌, ◌≤◌}
+use Prim.Native.Nat.{◌-◌}
 use native.Mathlib.Omega.{arith}
-use borrow.Author.Rules.{rules}
-use mathlib.Core.Path.{◌≡◌, refl, ◌∙◌}
-use lib.ListN.{length, take, length-set}
-use lib.Seq.{sets}
+use mathlib.Core.Path.{refl}
+use lib.ListN.{length-set}
 use Rattle.printing.proofs.TextLaws.{word_on, word_end}
 use Rattle.printing.proofs.put_word.Goals as goal
 

@@ -1,4 +1,3 @@
-use borrow.Author.Rules.{rules}
 use native.Mathlib.Omega.{arith}
 use Rattle.read.proofs.StepLaws.{field_is, field_at_is, field_inside}
 use Rattle.read.proofs.field_at.Goals as goal

@@ -1,7 +1,6 @@
-use borrow.Author.Rules.{rules}
 use Prim.Native.Nat.{◌-◌}
 use native.Mathlib.Omega.{arith}
-use Rattle.read.proofs.LookLaws.{step_along, Looking, look_start, look_end, look_none, look_wrong, look_fault, look_found, look_on}
+use Rattle.read.proofs.LookLaws.{step_along, look_start, look_end, look_none, look_wrong, look_fault, look_found, look_on}
 use Rattle.read.proofs.look.Goals as goal
 
 pub loop-at-init : goal.loop-at-init

@@ -1,4 +1,3 @@
-use borrow.Author.Rules.{rules}
 use mathlib.Core.Path.{◌∙◌}
 use Rattle.open.proofs.OpenLaws.{stands_fields}
 use Rattle.read.proofs.LookLaws.{look_is}

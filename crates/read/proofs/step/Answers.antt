@@ -1,4 +1,3 @@
-use borrow.Author.Rules.{rules}
 use Rattle.open.proofs.OpenLaws.{stands_fields, stands_items}
 use Rattle.read.proofs.StepLaws.{step_refused, step_leaf, step_fields, step_items}
 use Rattle.read.proofs.step.Goals as goal

@@ -1,4 +1,3 @@
-use borrow.Author.Rules.{rules}
 use mathlib.Core.Path.{refl}
 use Rattle.replies.specs.Reply.{double_reply}
 use Rattle.replies.proofs.ReplyLaws.{reply_few, reply}

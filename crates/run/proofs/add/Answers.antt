@@ -1,4 +1,3 @@
-use borrow.Author.Rules.{rules}
 use mathlib.Core.Path.{ap, ◌∙◌}
 use Rattle.run.specs.Run.{join}
 use Rattle.run.proofs.add.Goals as goal

@@ -1,7 +1,6 @@
 use borrow.Author.Rules.{rules}
-use Rattle.select.proofs.FillReturns.{Filling, fill_starts, fill_kept, fill_ends, fill_stops, fill_less, fill_more, fill_on}
+use Rattle.select.proofs.FillReturns.{fill_starts, fill_kept, fill_ends, fill_stops, fill_less, fill_more, fill_on}
 use Prim.Native.Nat.{◌-◌}
-use lib.ListN.{length}
 use Rattle.select.proofs.fill.Goals as goal
 
 ruleset laws = (fill_starts, fill_kept, fill_ends, fill_stops, fill_less, fill_more, fill_on, rules)

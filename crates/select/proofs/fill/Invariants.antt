@@ -1,5 +1,4 @@
-use borrow.Author.Rules.{rules}
-use Rattle.select.proofs.FillReturns.{Filling, fill_starts, fill_kept, fill_ends, fill_stops, fill_less, fill_more, fill_on}
+use Rattle.select.proofs.FillReturns.{Filling}
 use Prim.Native.Nat.{◌-◌}
 use lib.ListN.{length}
 use Rattle.select.proofs.fill.Given as goal

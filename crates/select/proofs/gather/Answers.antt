@@ -1,8 +1,6 @@
 use borrow.Author.Rules.{rules}
-use Prim.Native.Nat.{◌-◌, ◌≤◌}
-use native.Mathlib.Omega.{arith}
-use lib.ListN.{length}
-use Rattle.select.proofs.SearchReturns.{Gathering, gather_starts, gather_few, gather_ends, gather_stops, gather_on, gather_less}
+use Prim.Native.Nat.{◌-◌}
+use Rattle.select.proofs.SearchReturns.{gather_starts, gather_few, gather_ends, gather_stops, gather_on, gather_less}
 use Rattle.select.proofs.gather.Goals as goal
 
 ruleset laws = (gather_starts, gather_few, gather_ends, gather_stops, gather_on, gather_less, rules)

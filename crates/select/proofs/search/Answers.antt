@@ -1,8 +1,6 @@
 use borrow.Author.Rules.{rules}
 use mathlib.Core.Path.{refl}
-use Rattle.select.specs.Source.{entries_of}
-use Rattle.select.proofs.PassLaws.{left}
-use Rattle.select.proofs.SearchReturns.{Searching, search_starts, search_ends, search_on, search_less}
+use Rattle.select.proofs.SearchReturns.{search_starts, search_ends, search_on, search_less}
 use Rattle.select.proofs.search.Goals as goal
 
 ruleset laws = (search_starts, search_ends, search_on, search_less, rules)

@@ -1,4 +1,3 @@
-use borrow.Author.Rules.{rules}
 use Rattle.sending.proofs.SentLaws.{sent_none, sent_is, sent_refused}
 use Rattle.sending.proofs.send.Goals as goal
 

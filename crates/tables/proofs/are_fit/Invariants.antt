@@ -1,7 +1,6 @@
-use borrow.Author.Rules.{rules}
 use Prim.Native.Nat.{◌-◌}
 use lib.ListN.{length}
-use Rattle.tables.proofs.FitReturns.{Fitting, fit_starts, fit_fails, fit_on, fit_ends}
+use Rattle.tables.proofs.FitReturns.{Fitting}
 use Rattle.tables.proofs.are_fit.Given as goal
 
 abbrev pub invariant-loop-i : goal.invariant-loop-i

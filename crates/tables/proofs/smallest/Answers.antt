@@ -1,7 +1,5 @@
 use borrow.Author.Rules.{rules}
-use Prim.Native.Nat.{◌-◌}
-use lib.ListN.{length}
-use Rattle.tables.proofs.SecondReturns.{Seeking, seek_starts, seek_on, seek_ends}
+use Rattle.tables.proofs.SecondReturns.{seek_starts, seek_on, seek_ends}
 use Rattle.tables.proofs.smallest.Goals as goal
 
 pub loop-i-init : goal.loop-i-init

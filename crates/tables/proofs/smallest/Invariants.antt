@@ -1,7 +1,6 @@
-use borrow.Author.Rules.{rules}
 use Prim.Native.Nat.{◌-◌}
 use lib.ListN.{length}
-use Rattle.tables.proofs.SecondReturns.{Seeking, seek_starts, seek_on, seek_ends}
+use Rattle.tables.proofs.SecondReturns.{Seeking}
 use Rattle.tables.proofs.smallest.Given as goal
 
 abbrev pub invariant-loop-i : goal.invariant-loop-i

@@ -1,5 +1,4 @@
 -- `text::advance` meets its contract: an ASCII byte with those behind it, or one wider character.
-use borrow.Author.Rules.{rules}
 use native.Mathlib.Omega.{arith}
 use Rattle.text.proofs.Steps.{passed_run}
 use Rattle.text.proofs.advance.Goals as goal

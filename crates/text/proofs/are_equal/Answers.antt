@@ -1,11 +1,7 @@
-use borrow.Author.Rules.{rules}
 use native.Mathlib.Omega.{arith}
-use Prim.Native.Nat.{◌+◌, ◌-◌, ◌≤◌}
-use mathlib.Core.Path.{◌≡◌, refl}
-use lib.ListN.{length}
-use borrow.Author.Tests.{not-true, not-false}
-use Rattle.text.specs.Equal.{equal}
-use Rattle.text.proofs.Compare.{equal_from, equal_long, equal_done, equal_more, equal_less, equal_on, equal_off}
+use Prim.Native.Nat.{◌+◌}
+use mathlib.Core.Path.{refl}
+use Rattle.text.proofs.Compare.{equal_long, equal_done, equal_more, equal_less, equal_on, equal_off}
 use Rattle.text.proofs.are_equal.Goals as goal
 
 pub returns-then-a-b : goal.returns-then-a-b
@@ -20,12 +16,11 @@ returns-then-not-equal_block c =
     c.equal_block.result c.equal_block.ensures c.if-not-equal_block.true
 
 pub loop-i-preserved : goal.loop-i-preserved
-loop-i-preserved c =
-    (
-      omega arith,
-      equal_on _ _ c.loop-i.i _ c.loop-i.invariant.1 (c.loop-i.i + 32)
-          c.equal_block.result c.equal_block.ensures c.if-not-equal_block.false,
-    )
+loop-i-preserved c = (
+  omega arith,
+  equal_on _ _ c.loop-i.i _ c.loop-i.invariant.1 (c.loop-i.i + 32)
+      c.equal_block.result c.equal_block.ensures c.if-not-equal_block.false,
+)
 
 pub loop-i-2-init : goal.loop-i-2-init
 loop-i-2-init c = (omega arith, c.loop-i.invariant.1)
@@ -36,12 +31,11 @@ returns-then-a-i c =
     (omega arith) c.if-a-i.true
 
 pub loop-i-2-preserved : goal.loop-i-2-preserved
-loop-i-2-preserved c =
-    (
-      omega arith,
-      equal_more _ _ c.loop-i-2.i _ c.loop-i-2.invariant.1 (omega arith)
-          (omega arith) c.if-a-i.false,
-    )
+loop-i-2-preserved c = (
+  omega arith,
+  equal_more _ _ c.loop-i-2.i _ c.loop-i-2.invariant.1 (omega arith)
+      (omega arith) c.if-a-i.false,
+)
 
 pub returns : goal.returns
 returns c = equal_done _ _ c.loop-i-2.i _ c.loop-i-2.invariant.1 (omega arith) (omega arith)

@@ -1,12 +1,9 @@
 -- `text::are_equal` meets its contract. The invariant of both loops: the parts are equal if what is left of them is.
-use borrow.Author.Rules.{rules}
-use native.Mathlib.Omega.{arith}
-use Prim.Native.Nat.{◌+◌, ◌-◌, ◌≤◌}
-use mathlib.Core.Path.{◌≡◌, refl}
+use Prim.Native.Nat.{◌-◌, ◌≤◌}
+use mathlib.Core.Path.{◌≡◌}
 use lib.ListN.{length}
-use borrow.Author.Tests.{not-true, not-false}
 use Rattle.text.specs.Equal.{equal}
-use Rattle.text.proofs.Compare.{equal_from, equal_long, equal_done, equal_more, equal_less, equal_on, equal_off}
+use Rattle.text.proofs.Compare.{equal_from}
 use Rattle.text.proofs.are_equal.Given as goal
 
 abbrev pub invariant-loop-i : goal.invariant-loop-i

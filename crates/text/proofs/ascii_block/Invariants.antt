@@ -1,12 +1,8 @@
 -- `text::ascii_block` meets its contract. The loop's invariant: if all bytes so far are ASCII, they are passed.
-use borrow.Author.Rules.{rules}
-use native.Mathlib.Omega.{arith}
 use Prim.Native.Nat.{◌+◌, ◌-◌, ◌≤◌}
-use mathlib.Core.Path.{◌≡◌, refl}
+use mathlib.Core.Path.{◌≡◌}
 use mathlib.Core.Bool.{true}
-use mathlib.Core.List.{[]}
 use Rattle.text.specs.Passed.{Passed}
-use Rattle.text.proofs.Steps.{passed_none, passed_block, passed_yes}
 use Rattle.text.proofs.ascii_block.Given as goal
 
 abbrev pub invariant-loop-k : goal.invariant-loop-k

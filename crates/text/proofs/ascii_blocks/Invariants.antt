@@ -1,14 +1,8 @@
 -- `text::ascii_blocks` meets its contract. The loop's invariant: the blocks so far are passed.
-use borrow.Author.Rules.{rules}
-use native.Mathlib.Omega.{arith}
 use Prim.Native.Nat.{◌-◌, ◌≤◌}
-use mathlib.Core.Path.{refl}
 use mathlib.Core.Bool.{true}
-use mathlib.Core.List.{[]}
 use lib.ListN.{length}
-use borrow.Author.Tests.{not-false}
 use Rattle.text.specs.Passed.{Passed}
-use Rattle.text.proofs.Steps.{passed_none, passed_on}
 use Rattle.text.proofs.ascii_blocks.Given as goal
 
 abbrev pub invariant-loop-to : goal.invariant-loop-to

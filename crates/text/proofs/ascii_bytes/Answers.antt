@@ -1,10 +1,5 @@
-use borrow.Author.Rules.{rules}
 use native.Mathlib.Omega.{arith}
-use Prim.Native.Nat.{◌-◌, ◌≤◌}
 use mathlib.Core.Path.{refl}
-use mathlib.Core.Bool.{true}
-use mathlib.Core.List.{[]}
-use Rattle.text.specs.Passed.{Passed}
 use Rattle.text.proofs.Steps.{passed_none, passed_ascii}
 use Rattle.text.proofs.ascii_bytes.Goals as goal
 

@@ -1,12 +1,7 @@
 -- `text::ascii_bytes` meets its contract. The loop's invariant: the bytes so far are passed.
-use borrow.Author.Rules.{rules}
-use native.Mathlib.Omega.{arith}
 use Prim.Native.Nat.{◌-◌, ◌≤◌}
-use mathlib.Core.Path.{refl}
 use mathlib.Core.Bool.{true}
-use mathlib.Core.List.{[]}
 use Rattle.text.specs.Passed.{Passed}
-use Rattle.text.proofs.Steps.{passed_none, passed_ascii}
 use Rattle.text.proofs.ascii_bytes.Given as goal
 
 abbrev pub invariant-loop-to : goal.invariant-loop-to

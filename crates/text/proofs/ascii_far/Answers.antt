@@ -1,5 +1,4 @@
 -- `text::ascii_far` meets its contract: what its two parts pass is passed one after the other.
-use borrow.Author.Rules.{rules}
 use native.Mathlib.Omega.{arith}
 use mathlib.Core.Path.{refl}
 use Rattle.text.proofs.Steps.{passed_on}

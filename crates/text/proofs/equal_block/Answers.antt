@@ -1,21 +1,16 @@
-use borrow.Author.Rules.{rules}
 use native.Mathlib.Omega.{arith}
-use Prim.Native.Nat.{◌+◌, ◌-◌, ◌≤◌}
-use mathlib.Core.Path.{◌≡◌}
-use mathlib.Core.Bool.{◌&&◌}
-use Rattle.text.proofs.Compare.{equal_from, block_start, block_more, block_done}
+use Rattle.text.proofs.Compare.{block_start, block_more, block_done}
 use Rattle.text.proofs.equal_block.Goals as goal
 
 pub loop-k-init : goal.loop-k-init
 loop-k-init c = (omega arith, block_start _ _ c.args.at)
 
 pub loop-k-preserved : goal.loop-k-preserved
-loop-k-preserved c =
-    (
-      omega arith,
-      block_more _ _ c.args.at c.loop-k.k c.loop-k.all
-          c.loop-k.invariant.1 (omega arith) (omega arith),
-    )
+loop-k-preserved c = (
+  omega arith,
+  block_more _ _ c.args.at c.loop-k.k c.loop-k.all
+      c.loop-k.invariant.1 (omega arith) (omega arith),
+)
 
 pub returns : goal.returns
 returns c =

@@ -1,10 +1,8 @@
 -- `text::equal_block` meets its contract. The loop's invariant: the places are alike if the bytes so far are, and what is behind those.
-use borrow.Author.Rules.{rules}
-use native.Mathlib.Omega.{arith}
 use Prim.Native.Nat.{◌+◌, ◌-◌, ◌≤◌}
 use mathlib.Core.Path.{◌≡◌}
 use mathlib.Core.Bool.{◌&&◌}
-use Rattle.text.proofs.Compare.{equal_from, block_start, block_more, block_done}
+use Rattle.text.proofs.Compare.{equal_from}
 use Rattle.text.proofs.equal_block.Given as goal
 
 abbrev pub invariant-loop-k : goal.invariant-loop-k

@@ -1,5 +1,4 @@
 -- `text::four` meets its contract: each of its tests on the first byte says what is due, or that nothing is.
-use borrow.Author.Rules.{rules}
 use native.Mathlib.Omega.{arith}
 use Rattle.text.proofs.Steps.{passed_first, passed_never}
 use Rattle.text.proofs.First.{due_f0, due_four, due_f4, due_past}

@@ -1,9 +1,8 @@
-use borrow.Author.Rules.{rules}
 use native.Mathlib.Omega.{arith}
-use Prim.Native.Nat.{ℕ, ◌-◌, ◌≤◌}
+use Prim.Native.Nat.{ℕ, ◌-◌}
 use mathlib.Core.Path.{refl, subst}
 use mathlib.Core.Bool.{true}
-use mathlib.Core.List.{List, []}
+use mathlib.Core.List.{List}
 use lib.ListN.{length, take}
 use lib.Seq.{take_all}
 use borrow.Author.Tests.{lt-ltb, le-ltb}
@@ -28,12 +27,11 @@ pub loop-at-smaller : goal.loop-at-smaller
 loop-at-smaller c = omega arith
 
 pub loop-at-preserved : goal.loop-at-preserved
-loop-at-preserved c =
-    (
-      c.advance-n.ensures.fits (lt-ltb 0 c.advance-n.result (omega arith)),
-      passed_on _ _ _ _ _ _ c.loop-at.invariant.1
-          (passed_yes _ _ _ _ _ _ c.advance-n.ensures (lt-ltb 0 c.advance-n.result (omega arith)) refl),
-    )
+loop-at-preserved c = (
+  c.advance-n.ensures.fits (lt-ltb 0 c.advance-n.result (omega arith)),
+  passed_on _ _ _ _ _ _ c.loop-at.invariant.1
+      (passed_yes _ _ _ _ _ _ c.advance-n.ensures (lt-ltb 0 c.advance-n.result (omega arith)) refl),
+)
 
 pub returns : goal.returns
 returns c = text_done _ _ c.loop-at.invariant.1 (omega arith)

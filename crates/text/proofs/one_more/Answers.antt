@@ -1,5 +1,4 @@
 -- `text::one_more` meets its contract, by the law for the last byte of a character.
-use borrow.Author.Rules.{rules}
 use native.Mathlib.Omega.{arith}
 use Rattle.text.proofs.Steps.{passed_short, passed_last}
 use Rattle.text.proofs.one_more.Goals as goal

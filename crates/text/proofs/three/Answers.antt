@@ -1,5 +1,4 @@
 -- `text::three` meets its contract: each of its tests on the first byte says what is due.
-use borrow.Author.Rules.{rules}
 use native.Mathlib.Omega.{arith}
 use Rattle.text.proofs.Steps.{passed_first}
 use Rattle.text.proofs.First.{due_e0, due_ed, due_three}

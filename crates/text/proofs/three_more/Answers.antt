@@ -1,5 +1,4 @@
 -- `text::three_more` meets its contract: a byte in range, and then the last two.
-use borrow.Author.Rules.{rules}
 use native.Mathlib.Omega.{arith}
 use Rattle.text.proofs.Steps.{passed_short, passed_in, passed_out}
 use Rattle.text.proofs.three_more.Goals as goal

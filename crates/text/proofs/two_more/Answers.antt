@@ -1,5 +1,4 @@
 -- `text::two_more` meets its contract: a byte in range, and then the last one.
-use borrow.Author.Rules.{rules}
 use native.Mathlib.Omega.{arith}
 use mathlib.Core.Path.{refl}
 use Rattle.text.proofs.Steps.{passed_short, passed_in, passed_out, passed_last}

@@ -1,5 +1,4 @@
 -- `text::wide` meets its contract, by what is due after a first byte of two, three or four bytes.
-use borrow.Author.Rules.{rules}
 use native.Mathlib.Omega.{arith}
 use Rattle.text.proofs.Steps.{passed_first, passed_never, passed_yes, passed_no}
 use Rattle.text.proofs.First.{due_none, due_two}

@@ -1,7 +1,6 @@
-use borrow.Author.Rules.{rules}
 use Prim.Native.Nat.{◌-◌}
 use lib.ListN.{length}
-use Rattle.used.proofs.PlaceReturns.{Passed, passed_none, place_ends, place_nothing, place_here, place_less, place_on}
+use Rattle.used.proofs.PlaceReturns.{Passed}
 use Rattle.used.proofs.place_of.Given as goal
 
 abbrev pub invariant-loop-at : goal.invariant-loop-at

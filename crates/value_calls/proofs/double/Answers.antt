@@ -1,4 +1,3 @@
-use borrow.Author.Rules.{rules}
 use mathlib.Core.Path.{ap, ◌∙◌}
 use Rattle.places.specs.Values.{double}
 use Rattle.replies.specs.Reply.{double_reply}

@@ -1,4 +1,3 @@
-use borrow.Author.Rules.{rules}
 use mathlib.Core.Path.{ap, ◌∙◌}
 use Rattle.places.specs.Values.{signed}
 use Rattle.replies.specs.Reply.{signed_reply}

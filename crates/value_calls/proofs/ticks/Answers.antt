@@ -1,4 +1,3 @@
-use borrow.Author.Rules.{rules}
 use mathlib.Core.Path.{ap, ◌∙◌}
 use Rattle.places.specs.Values.{ticks}
 use Rattle.replies.specs.Reply.{ticks_reply}

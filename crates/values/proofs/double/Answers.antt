@@ -1,4 +1,3 @@
-use borrow.Author.Rules.{rules}
 use mathlib.Core.Path.{◌∙◌}
 use Rattle.values.proofs.ValueLaws.{double_is}
 use Rattle.values.proofs.double.Goals as goal

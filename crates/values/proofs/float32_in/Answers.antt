@@ -1,4 +1,3 @@
-use borrow.Author.Rules.{rules}
 use mathlib.Core.Path.{sym, ap, ◌∙◌}
 use Rattle.values.specs.Code.{float32_in}
 use Rattle.values.specs.declared.Value.TheVariants as Va

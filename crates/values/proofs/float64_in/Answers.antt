@@ -1,4 +1,3 @@
-use borrow.Author.Rules.{rules}
 use mathlib.Core.Path.{sym, ap, ◌∙◌}
 use Rattle.values.specs.Code.{float64_in}
 use Rattle.values.proofs.float64_in.Goals as goal

@@ -1,4 +1,3 @@
-use borrow.Author.Rules.{rules}
 use mathlib.Core.Path.{◌∙◌}
 use Rattle.values.proofs.ValueLaws.{signed_is}
 use Rattle.values.proofs.signed.Goals as goal

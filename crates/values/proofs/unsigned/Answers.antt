@@ -1,4 +1,3 @@
-use borrow.Author.Rules.{rules}
 use Rattle.values.proofs.ValueLaws.{unsigned_is}
 use Rattle.values.proofs.unsigned.Goals as goal
 

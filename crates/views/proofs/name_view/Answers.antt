@@ -1,4 +1,3 @@
-use borrow.Author.Rules.{rules}
 use native.Mathlib.Omega.{arith}
 use Rattle.views.proofs.ViewLaws.{name_lies, name_is, name_none}
 use Rattle.views.proofs.name_view.Goals as goal

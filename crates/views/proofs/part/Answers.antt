@@ -1,4 +1,3 @@
-use borrow.Author.Rules.{rules}
 use native.Mathlib.Omega.{arith}
 use Rattle.open.proofs.OpenLaws.{sound_good}
 use Rattle.views.proofs.ViewLaws.{part_fault, part_is, part_fits}

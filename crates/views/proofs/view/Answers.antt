@@ -1,4 +1,3 @@
-use borrow.Author.Rules.{rules}
 use native.Mathlib.Omega.{arith}
 use Rattle.views.proofs.ViewLaws.{view_is, view_none, view_lies}
 use Rattle.views.proofs.view.Goals as goal

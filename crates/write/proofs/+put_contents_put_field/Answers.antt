@@ -1,10 +1,7 @@
-use Prim.Native.Nat.{ℕ, ◌<◌}
 use borrow.Author.Rules.{rules}
-use Prim.Native.Nat.{◌+◌, ◌-◌, ◌*◌}
+use Prim.Native.Nat.{◌-◌}
 use native.Mathlib.Omega.{arith}
-use mathlib.Core.Path.{◌≡◌, refl}
-use mathlib.Core.List.{List}
-use lib.ListN.{length}
+use mathlib.Core.Path.{refl}
 use Rattle.write.proofs.PutField.{
   put_low,
   put_deep,
@@ -20,7 +17,6 @@ use Rattle.write.proofs.PutField.{
   put_leaf_ready,
   put_leaf_made,
 }
-use Rattle.write.proofs.PutState.{PutLoop}
 use Rattle.write.proofs.PutStart.{put_can, put_mine, put_start}
 use Rattle.write.proofs.PutLoop.{put_stop, put_close_room, put_close, put_item, put_step, put_less}
 use Rattle.write.proofs.+put_contents_put_field.Goals as goal
@@ -45,13 +41,12 @@ put_contents-returns-then-list-p-eq0 t c =
     (put_start _ _ _ _ _ _ _ _ c.requires _ _ _ c.put_head-h.ensures)) (search rules) (search rules) _ c.put_count.ensures _ refl refl refl
 
 pub put_contents-put_field-r-requires : goal.put_contents-put_field-r-requires
-put_contents-put_field-r-requires t c =
-    (
-      search rules,
-      put_item _ _ _ _ _ _ _ _ _ _ _ _ _ _ _ _ (c.loop-p.invariant.2 _ _
-          (put_start _ _ _ _ _ _ _ _ c.requires _ _ _ c.put_head-h.ensures))
-          (search rules) (search rules),
-    )
+put_contents-put_field-r-requires t c = (
+  search rules,
+  put_item _ _ _ _ _ _ _ _ _ _ _ _ _ _ _ _ (c.loop-p.invariant.2 _ _
+      (put_start _ _ _ _ _ _ _ _ c.requires _ _ _ c.put_head-h.ensures))
+      (search rules) (search rules),
+)
 
 pub put_contents-overflow_add-count : goal.put_contents-overflow_add-count
 put_contents-overflow_add-count t c =
@@ -65,12 +60,11 @@ put_contents-loop-p-smaller t c =
     c.put_field-r.ensures
 
 pub put_contents-loop-p-preserved : goal.put_contents-loop-p-preserved
-put_contents-loop-p-preserved t c =
-    (
-      search rules,
-      search rules,
-      λ O W x. put_step _ _ _ _ _ _ _ _ _ _ _ _ _ _ _ _ (c.loop-p.invariant.2 O W x) (search rules) (search rules) _ _ _ c.put_field-r.ensures,
-    )
+put_contents-loop-p-preserved t c = (
+  search rules,
+  search rules,
+  λ O W x. put_step _ _ _ _ _ _ _ _ _ _ _ _ _ _ _ _ (c.loop-p.invariant.2 O W x) (search rules) (search rules) _ _ _ c.put_field-r.ensures,
+)
 
 pub put_contents-returns : goal.put_contents-returns
 put_contents-returns t c =
@@ -88,32 +82,30 @@ pub put_field-overflow_add-at : goal.put_field-overflow_add-at
 put_field-overflow_add-at t c = omega (arith, put_low _ _ _ _ _ _ _ _ _ c.requires)
 
 pub put_field-put_front-e-requires : goal.put_field-put_front-e-requires
-put_field-put_front-e-requires t c =
-    (
-      put_after _ _ _ _ _ _ _ _ _ c.requires _
-          c.start_of-start.ensures _ c.number_at.ensures _ c.final_id-id.ensures,
-      put_inside _ _ _
-          _ _ _ _ _ _ c.requires _
-          c.start_of-start.ensures,
-      put_front_room _ _ _ _ _ _ _ _ _ c.requires _ c.start_of-start.ensures _ c.number_at.ensures _
-          c.final_id-id.ensures,
-      put_id _ _ _ _ _ _ _ _ _ c.requires _
-          c.start_of-start.ensures _ c.number_at.ensures _ c.final_id-id.ensures,
-    )
+put_field-put_front-e-requires t c = (
+  put_after _ _ _ _ _ _ _ _ _ c.requires _
+      c.start_of-start.ensures _ c.number_at.ensures _ c.final_id-id.ensures,
+  put_inside _ _ _
+      _ _ _ _ _ _ c.requires _
+      c.start_of-start.ensures,
+  put_front_room _ _ _ _ _ _ _ _ _ c.requires _ c.start_of-start.ensures _ c.number_at.ensures _
+      c.final_id-id.ensures,
+  put_id _ _ _ _ _ _ _ _ _ c.requires _
+      c.start_of-start.ensures _ c.number_at.ensures _ c.final_id-id.ensures,
+)
 
 pub put_field-overflow_sub-left : goal.put_field-overflow_sub-left
 put_field-overflow_sub-left t c = put_deep _ _ _ _ _ _ _ _ _ c.requires
 
 pub put_field-put_contents-requires : goal.put_field-put_contents-requires
-put_field-put_contents-requires t c =
-    (
-      omega (
-        arith,
-        put_deep _ _ _ _ _ _ _ _ _ c.requires,
-      ),
-      put_object _ _ _ _ _ _ _ _ _ c.requires _ c.start_of-start.ensures _ c.number_at.ensures _
-          c.final_id-id.ensures _ _ c.put_front-e.ensures.0 c.put_front-e.ensures.1 c.if-b-eq2.true _ refl,
-    )
+put_field-put_contents-requires t c = (
+  omega (
+    arith,
+    put_deep _ _ _ _ _ _ _ _ _ c.requires,
+  ),
+  put_object _ _ _ _ _ _ _ _ _ c.requires _ c.start_of-start.ensures _ c.number_at.ensures _
+      c.final_id-id.ensures _ _ c.put_front-e.ensures.0 c.put_front-e.ensures.1 c.if-b-eq2.true _ refl,
+)
 
 pub put_field-returns-then-b-eq2 : goal.put_field-returns-then-b-eq2
 put_field-returns-then-b-eq2 t c =
@@ -125,16 +117,15 @@ pub put_field-overflow_sub-left-then-b-eq4 : goal.put_field-overflow_sub-left-th
 put_field-overflow_sub-left-then-b-eq4 t c = put_deep _ _ _ _ _ _ _ _ _ c.requires
 
 pub put_field-put_contents-requires-then-b-eq4 : goal.put_field-put_contents-requires-then-b-eq4
-put_field-put_contents-requires-then-b-eq4 t c =
-    (
-      omega (
-        arith,
-        put_deep _ _ _ _ _ _ _ _ _ c.requires,
-      ),
-      put_array _ _ _ _ _ _ _ _ _ c.requires _ c.start_of-start.ensures _ c.number_at.ensures _
-          c.final_id-id.ensures _ _
-          c.put_front-e.ensures.0 c.put_front-e.ensures.1 c.if-b-eq4.true _ refl,
-    )
+put_field-put_contents-requires-then-b-eq4 t c = (
+  omega (
+    arith,
+    put_deep _ _ _ _ _ _ _ _ _ c.requires,
+  ),
+  put_array _ _ _ _ _ _ _ _ _ c.requires _ c.start_of-start.ensures _ c.number_at.ensures _
+      c.final_id-id.ensures _ _
+      c.put_front-e.ensures.0 c.put_front-e.ensures.1 c.if-b-eq4.true _ refl,
+)
 
 pub put_field-returns-then-b-eq4 : goal.put_field-returns-then-b-eq4
 put_field-returns-then-b-eq4 t c =

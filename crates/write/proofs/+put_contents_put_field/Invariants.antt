@@ -1,28 +1,9 @@
-use Prim.Native.Nat.{ℕ, ◌<◌}
-use borrow.Author.Rules.{rules}
+use Prim.Native.Nat.{ℕ}
 use Prim.Native.Nat.{◌+◌, ◌-◌, ◌*◌}
-use native.Mathlib.Omega.{arith}
-use mathlib.Core.Path.{◌≡◌, refl}
+use mathlib.Core.Path.{◌≡◌}
 use mathlib.Core.List.{List}
 use lib.ListN.{length}
-use Rattle.write.proofs.PutField.{
-  put_low,
-  put_deep,
-  put_short,
-  put_inside,
-  put_after,
-  put_id,
-  put_front_room,
-  put_object,
-  put_array,
-  put_object_made,
-  put_array_made,
-  put_leaf_ready,
-  put_leaf_made,
-}
 use Rattle.write.proofs.PutState.{PutLoop}
-use Rattle.write.proofs.PutStart.{put_can, put_mine, put_start}
-use Rattle.write.proofs.PutLoop.{put_stop, put_close_room, put_close, put_item, put_step, put_less}
 use Rattle.write.proofs.+put_contents_put_field.Given as goal
 
 abbrev pub decreases-put_contents : goal.decreases-put_contents

@@ -1,6 +1,5 @@
 use borrow.Author.Rules.{rules}
 use native.Mathlib.Omega.{arith}
-use mathlib.Core.Path.{refl}
 use Rattle.write.proofs.Header.{open_mine, open_number, open_e, open_typed, open_at, open_kept, open_shared}
 use Rattle.write.proofs.PutLaws.{flags_fit, shared_under}
 use Rattle.write.proofs.put_head.Goals as goal
