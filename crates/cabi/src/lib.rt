@@ -1,6 +1,7 @@
 #![tactic(auto)]
-// The calls that `cabi_c` exports for C and Rust (include/ajuqvane.h). A truth is answered as 1 or 0. The calls on places answer 0, where the lent numbers then start with what
-// is asked for; the number of the fault met; or 3 for no more, 5 for not there, 6 for a wrong kind, 7 for out of range, 12 for too few numbers lent.
+// The calls that `cabi_c` exports for C and Rust (include/ajuqvane.h). A truth is answered as 1 or 0. The calls on places answer 0, where the lent
+// numbers then start with what is asked for; the number of the fault met; or 3 for no more, 5 for not there, 6 for a wrong kind, 7 for out of range,
+// 12 for too few numbers lent.
 ghost use Rattle.std.specs.Prelude.{◌≡◌};
 ghost use Rattle.text.specs.Equal.{equal};
 ghost use Rattle.text.specs.Utf8.{is_text};
