@@ -2,7 +2,7 @@
 use Prim.Native.Nat.{◌+◌}
 use mathlib.Core.Path.{◌≡◌, refl}
 use mathlib.Core.Bool.{true, false}
-use mathlib.Core.List.{◌∷◌}
+use mathlib.Core.List.{[], ◌∷◌}
 use Rattle.entries.specs.Entry.{bytes_at}
 use Rattle.entries.proofs.PinnedEntries.{part, ab, b, ab₂, a, ayb, axb}
 use Rattle.compare.specs.declared.Order.TheVariants as O

@@ -1,7 +1,7 @@
 -- Work numbers between the passes, computed: the size, the width of the count, the shared ID.
 use mathlib.Core.Path.{◌≡◌, refl}
 use mathlib.Core.Bool.{true, false}
-use mathlib.Core.List.{◌∷◌}
+use mathlib.Core.List.{[], ◌∷◌}
 use Rattle.number.specs.VarUInt.{encoded}
 use Rattle.run.specs.Run.{uniform}
 use Rattle.frames.specs.Container.{count_part, packed, size_in, width_in, shared_in, uniform_in}

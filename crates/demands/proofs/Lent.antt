@@ -1,7 +1,7 @@
 -- What is computed of long lists: the limit on an encoding, and what the program lends (document 01: "lends 65,536 output bytes and 16,384 work numbers").
 use Prim.Native.Nat.{ℕ, zero, suc}
 use mathlib.Core.Path.{◌≡◌, refl}
-use mathlib.Core.List.{List, ◌∷◌, map}
+use mathlib.Core.List.{List, [], ◌∷◌, map}
 use lib.ListN.{length, replicate}
 use Rattle.number.specs.VarUInt.{var_uint, encoded}
 use Rattle.text.specs.Utf8.{is_text, due}

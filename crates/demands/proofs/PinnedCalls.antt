@@ -1,6 +1,6 @@
 -- The numbers that the calls for C and the program answer beside document 01's (docs/DECISIONS.md, 39, 45 and 46), computed of the definitions.
 use mathlib.Core.Path.{◌≡◌, refl}
-use mathlib.Core.List.{◌∷◌, map}
+use mathlib.Core.List.{[], ◌∷◌, map}
 use Rattle.frames.specs.declared.Refusal.TheVariants.{BadFrame}
 use Rattle.frames.specs.Writer.{refuse, wrote}
 use Rattle.number.specs.VarUInt.{var_uint}

@@ -3,7 +3,7 @@ use Prim.Native.Nat.{ℕ, ◌≤◌}
 use native.Mathlib.Omega.{arith}
 use mathlib.Core.Path.{◌≡◌, sym}
 use mathlib.Core.Bool.{true}
-use mathlib.Core.List.{List, ◌∷◌, ◌++◌}
+use mathlib.Core.List.{List, [], ◌∷◌, ◌++◌}
 use Rattle.entries.specs.Entry.{begin_in, name_in}
 use Rattle.entries.specs.Least.{is_first, lesser, least}
 use Rattle.entries.specs.Among.{Perm, In, here, there}

@@ -1,7 +1,7 @@
 -- What the definitions come to on small parts, computed.
 use Prim.Native.Nat.{ℕ, ◌+◌, ◌*◌}
 use mathlib.Core.Path.{◌≡◌, refl}
-use mathlib.Core.List.{List, ◌∷◌}
+use mathlib.Core.List.{List, [], ◌∷◌}
 use Rattle.text.specs.Equal.{equal}
 use Rattle.entries.specs.Entry.{bytes_at}
 use Rattle.entries.specs.Least.{is_first, is_twin, least_of}

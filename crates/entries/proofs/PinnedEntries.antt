@@ -2,7 +2,7 @@
 use Prim.Native.Nat.{ℕ, ◌+◌, ◌*◌}
 use mathlib.Core.Path.{◌≡◌, refl}
 use mathlib.Core.Bool.{true, false}
-use mathlib.Core.List.{List, ◌∷◌}
+use mathlib.Core.List.{List, [], ◌∷◌}
 use Rattle.text.specs.Equal.{equal}
 use Rattle.entries.specs.Entry.{bytes_at, half_at, mark_of, entry_of, bytes_in}
 use Rattle.entries.specs.Least.{is_first, is_twin, least_of, least}

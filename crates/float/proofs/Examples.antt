@@ -3,7 +3,7 @@
 use Prim.Native.Nat.{ℕ}
 use mathlib.Core.Path.{◌≡◌, refl}
 use mathlib.Core.Bool.{true, false}
-use mathlib.Core.List.{List, ◌∷◌, map}
+use mathlib.Core.List.{List, [], ◌∷◌, map}
 use lib.IntN.{pos, negsuc}
 use lib.Ieee.{of_bits, to_bits, of_int, nan_bits}
 use Rattle.float.specs.Rule.{holds}

@@ -1,7 +1,7 @@
 -- What stands before a payload, the type byte and the name, for each form of a field: read back, and only it is.
-use Prim.Native.Nat.{ℕ, ◌^◌, ◌<◌}
+use Prim.Native.Nat.{ℕ, ◌+◌, ◌^◌, ◌<◌}
 use mathlib.Core.Path.{◌≡◌, refl, subst}
-use mathlib.Core.List.{List, ◌∷◌, ◌++◌}
+use mathlib.Core.List.{List, [], ◌∷◌, ◌++◌}
 use lib.ListN.{length}
 use Rattle.number.specs.BigEndian.{Bytes}
 use Rattle.format.specs.declared.Kind.{Kind}

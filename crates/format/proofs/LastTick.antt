@@ -2,7 +2,7 @@
 -- (specs/Calendar.antt), whose months and years are pinned too.
 use Prim.Native.Nat.{ℕ, ◌+◌, ◌-◌}
 use mathlib.Core.Path.{◌≡◌, refl}
-use mathlib.Core.List.{List, ◌∷◌, map}
+use mathlib.Core.List.{List, [], ◌∷◌, map}
 use Rattle.format.specs.Dates.{last_tick}
 use Rattle.format.specs.Calendar.{days_to, ticks_at}
 

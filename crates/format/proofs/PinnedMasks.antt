@@ -3,7 +3,7 @@
 -- orders in the definitions is refused here.
 use Prim.Native.Nat.{ℕ, zero, suc, ◌+◌}
 use mathlib.Core.Path.{◌≡◌, refl}
-use mathlib.Core.List.{List, ◌∷◌, ◌++◌, map}
+use mathlib.Core.List.{List, [], ◌∷◌, ◌++◌, map}
 use lib.ListN.{replicate}
 use Rattle.number.specs.BigEndian.{to_bytes}
 use Rattle.number.specs.VarUInt.{var_uint, encoded}

@@ -1,7 +1,7 @@
 -- Every layer: a tree within the limits is read back, and only such a tree is read with no flaw.
 use Prim.Native.Nat.{ℕ, zero, suc, ◌^◌, ◌<◌}
 use mathlib.Core.Path.{◌≡◌, refl, ap, ◌∙◌}
-use mathlib.Core.List.{List, ◌++◌}
+use mathlib.Core.List.{List, [], ◌++◌}
 use lib.ListN.{length}
 use Rattle.number.specs.BigEndian.{Bytes}
 use Rattle.format.specs.declared.Form.TheVariants.{Top}

@@ -3,7 +3,7 @@
 -- for the byte that fields share 02's (M-102). Exchanging two numbers or two orders in the definitions is refused here.
 use Prim.Native.Nat.{ℕ, ◌+◌}
 use mathlib.Core.Path.{◌≡◌, refl}
-use mathlib.Core.List.{List, ◌∷◌, ◌++◌, map}
+use mathlib.Core.List.{List, [], ◌∷◌, ◌++◌, map}
 use lib.ListN.{length, replicate}
 use Rattle.number.specs.BigEndian.{to_bytes}
 use Rattle.number.specs.VarUInt.{var_uint, encoded}

@@ -2,7 +2,7 @@
 use Prim.Native.Nat.{ℕ, ◌+◌, ◌-◌, ◌≤◌, ◌<◌, zero, suc}
 use lib.ListN.{length, drop, get_or, length-append, length-drop, set, take, take-append-drop}
 use lib.Seq.{drop-cons, drop-drop, drop-append_seam, set-set, sets, sets-eq, drop-set-lt, get_or-drop, set_comm}
-use mathlib.Core.List.{List, ◌∷◌, ◌++◌}
+use mathlib.Core.List.{List, [], ◌∷◌, ◌++◌}
 use mathlib.Core.Path.{◌≡◌, refl, sym, ◌∙◌, ap}
 use native.Mathlib.Nat.{add-zero, sub-zero}
 use native.Mathlib.Numerals.{add-one}

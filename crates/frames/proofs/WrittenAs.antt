@@ -1,7 +1,7 @@
 -- A list that describes a tree is written wherever it fits, as the encoding and the sizes say: in each of the three results.
 use Prim.Native.Nat.{ℕ, ◌-◌, ◌≤◌}
 use mathlib.Core.Path.{◌≡◌, ap}
-use mathlib.Core.List.{List, ◌++◌}
+use mathlib.Core.List.{List, [], ◌++◌}
 use lib.ListN.{length, drop}
 use borrow.Author.Tests.{le-ltb}
 use Rattle.frames.specs.declared.Written.TheVariants.{Done}

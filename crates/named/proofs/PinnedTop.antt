@@ -1,7 +1,7 @@
 -- The check of the top field with a table, computed: of the empty payload.
 use mathlib.Core.Path.{◌≡◌, refl}
 use mathlib.Core.Bool.{true}
-use mathlib.Core.List.{◌∷◌}
+use mathlib.Core.List.{[], ◌∷◌}
 use Rattle.format.specs.declared.Stop.TheVariants.{Early}
 use Rattle.format.specs.Payload.{front}
 use Rattle.format.specs.Reader.{read}

@@ -1,7 +1,7 @@
 -- What the definitions come to on a small list, computed. (Where a frame stands is pinned in `used`.)
 use Prim.Native.Nat.{ℕ, ◌+◌, ◌*◌}
 use mathlib.Core.Path.{◌≡◌, refl}
-use mathlib.Core.List.{List, ◌∷◌}
+use mathlib.Core.List.{List, [], ◌∷◌}
 use lib.ListN.{drop}
 use Rattle.text.specs.Equal.{equal}
 use Rattle.frames.specs.declared.Refusal.TheVariants.{NameUsed}

@@ -2,7 +2,7 @@
 use Prim.Native.Nat.{ℕ}
 use mathlib.Core.Path.{◌≡◌, refl}
 use mathlib.Core.Bool.{true, false}
-use mathlib.Core.List.{List, ◌∷◌}
+use mathlib.Core.List.{List, [], ◌∷◌}
 use Rattle.entries.specs.Entry.{bytes_at}
 use Rattle.compare.specs.Order.{order, ascends}
 use Rattle.notes.specs.declared.Notes.TheVariants.{Few, Rising, Many}

@@ -1,7 +1,7 @@
 -- VarUInts, computed: cut, and by how many bytes; whole, and at each length the greatest value that is not minimal and the least that is.
 use mathlib.Core.Path.{◌≡◌, refl}
 use mathlib.Core.Bool.{true, false}
-use mathlib.Core.List.{◌∷◌, map}
+use mathlib.Core.List.{[], ◌∷◌, map}
 use Rattle.number.specs.VarUInt.{var_uint}
 use Rattle.number.specs.declared.VarUInt.TheVariants.{Cut, Whole}
 

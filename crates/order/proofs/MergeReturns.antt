@@ -4,7 +4,7 @@ use native.Mathlib.Omega.{arith}
 use native.Mathlib.Numerals.{add-one}
 use mathlib.Core.Path.{◌≡◌, refl, sym, ap, ◌∙◌}
 use mathlib.Core.Bool.{Bool, true, false, not}
-use mathlib.Core.List.{List, ◌∷◌, ◌++◌, append_assoc}
+use mathlib.Core.List.{List, [], ◌∷◌, ◌++◌, append_assoc}
 use lib.ListN.{length, take, drop, get_or, set, length-drop, length-set, take-append-drop, drop_of_length-le}
 use lib.Seq.{append_snoc, drop-cons, drop-drop, take-take, get_or-take, get_or-drop, take-suc-set, drop-set-lt, take-set-lt}
 use Rattle.number.proofs.Clash.{clash}

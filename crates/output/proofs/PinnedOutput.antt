@@ -1,7 +1,7 @@
 -- What the definitions come to on short lists, computed.
 use Prim.Native.Nat.{ℕ}
 use mathlib.Core.Path.{◌≡◌, refl}
-use mathlib.Core.List.{List, ◌∷◌}
+use mathlib.Core.List.{List, [], ◌∷◌}
 use Rattle.float.specs.Rule.{holds}
 use Rattle.frames.specs.Container.{container_id}
 use Rattle.frame.specs.Pieces.{bits_in}

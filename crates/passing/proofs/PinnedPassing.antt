@@ -4,7 +4,7 @@ use Prim.Native.Nat.{ℕ}
 use mathlib.Core.Path.{◌≡◌, refl}
 use mathlib.Core.Bool.{true, false}
 use mathlib.Core.Option.{Option, none, some}
-use mathlib.Core.List.{List, ◌∷◌, map}
+use mathlib.Core.List.{List, [], ◌∷◌, map}
 use Rattle.number.specs.BigEndian.{to_bytes}
 use Rattle.number.specs.VarUInt.{var_uint}
 use Rattle.text.specs.Utf8.{is_text, due}

@@ -1,6 +1,6 @@
 -- The places in the 20 bytes that document 01 prints, and a container's view, computed from the definitions.
 use mathlib.Core.Path.{◌≡◌, refl}
-use mathlib.Core.List.{List, ◌∷◌}
+use mathlib.Core.List.{List, [], ◌∷◌}
 use Prim.Native.Nat.{ℕ}
 use Rattle.number.specs.VarUInt.{var_uint}
 use Rattle.text.specs.Utf8.{is_text, due}

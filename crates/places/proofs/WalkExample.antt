@@ -1,6 +1,6 @@
 -- The walk of the 20 bytes that document 01 prints, computed from the definitions.
 use mathlib.Core.Path.{◌≡◌, refl}
-use mathlib.Core.List.{List, ◌∷◌}
+use mathlib.Core.List.{List, [], ◌∷◌}
 use Prim.Native.Nat.{ℕ}
 use Rattle.number.specs.VarUInt.{var_uint}
 use Rattle.text.specs.Utf8.{is_text, due}

@@ -2,7 +2,7 @@
 use Prim.Native.Nat.{ℕ}
 use mathlib.Core.Path.{◌≡◌, refl}
 use mathlib.Core.Bool.{true, false}
-use mathlib.Core.List.{List, ◌∷◌, map}
+use mathlib.Core.List.{List, [], ◌∷◌, map}
 use Rattle.format.specs.declared.Kind.TheVariants.{Null}
 use Rattle.format.specs.declared.Form.TheVariants.{SharedField}
 use Rattle.number.specs.VarUInt.{var_uint}

@@ -1,7 +1,7 @@
 -- A test that some element of a list meets: of lists put together and mapped, and which element it is.
 use mathlib.Core.Path.{◌≡◌, refl, ap}
 use mathlib.Core.Bool.{Bool, true, false, ◌||◌, or-true, or_assoc}
-use mathlib.Core.List.{List, ◌∷◌, ◌++◌, map}
+use mathlib.Core.List.{List, [], ◌∷◌, ◌++◌, map}
 use Rattle.number.proofs.Clash.{clash}
 use Rattle.format.specs.Kinds.{any}
 use Rattle.spelling.specs.Flawed.{flat_map}

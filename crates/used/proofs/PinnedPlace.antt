@@ -1,7 +1,7 @@
 -- What the definition comes to on small parts, computed.
 use Prim.Native.Nat.{ℕ}
 use mathlib.Core.Path.{◌≡◌, refl}
-use mathlib.Core.List.{List, ◌∷◌, map}
+use mathlib.Core.List.{List, [], ◌∷◌, map}
 use Rattle.number.specs.VarUInt.{var_uint}
 use Rattle.text.specs.Utf8.{is_text, due}
 use Rattle.format.specs.Kinds.{known}

@@ -1,6 +1,6 @@
 -- The mask with a table, computed: of the empty payload.
 use mathlib.Core.Path.{◌≡◌, refl}
-use mathlib.Core.List.{◌∷◌}
+use mathlib.Core.List.{[], ◌∷◌}
 use Rattle.format.specs.Payload.{front}
 use Rattle.format.specs.Mask.{mask}
 use Rattle.format.specs.Reader.{read}

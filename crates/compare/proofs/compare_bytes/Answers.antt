@@ -1,5 +1,6 @@
 use borrow.Author.Rules.{rules}
 use Rattle.compare.proofs.CompareReturns.{compare_starts, compare_lt, compare_gt, compare_on, compare_more, compare_less, compare_end}
+use Prim.Native.Nat.{◌-◌}
 use Rattle.compare.proofs.compare_bytes.Goals as goal
 
 ruleset laws = (compare_starts, compare_lt, compare_gt, compare_on, compare_more, compare_less, compare_end, rules)

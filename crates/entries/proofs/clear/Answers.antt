@@ -1,4 +1,5 @@
 use borrow.Author.Rules.{rules}
+use Prim.Native.Nat.{◌-◌}
 use native.Mathlib.Omega.{arith}
 use Rattle.entries.proofs.ClearReturns.{clear_starts, clear_on, clear_ends}
 use Rattle.entries.proofs.clear.Goals as goal

@@ -1,5 +1,6 @@
 use borrow.Author.Rules.{rules}
 use Rattle.pairs.proofs.PairReturns.{pair_starts, pair_inside, pair_on, pair_ends}
+use Prim.Native.Nat.{◌-◌}
 use Rattle.pairs.proofs.first_twin.Goals as goal
 
 ruleset laws = (pair_starts, pair_inside, pair_on, pair_ends, rules)

@@ -1,5 +1,6 @@
 use borrow.Author.Rules.{rules}
 use Rattle.pairs.proofs.PairReturns.{past_starts, past_on, past_ends}
+use Prim.Native.Nat.{◌-◌}
 use Rattle.pairs.proofs.past.Goals as goal
 
 ruleset laws = (past_starts, past_on, past_ends, rules)

@@ -1,6 +1,6 @@
 use native.Mathlib.Omega.{arith}
 use mathlib.Core.Path.{refl, ap}
-use mathlib.Core.List.{◌∷◌}
+use mathlib.Core.List.{[], ◌∷◌}
 use lib.Seq.{sets}
 use lib.ListN.{length-set}
 use Rattle.replies.specs.Reply.{varuint_reply}

@@ -1,4 +1,5 @@
 use borrow.Author.Rules.{rules}
+use Prim.Native.Nat.{◌-◌}
 use Rattle.tables.proofs.FitReturns.{fit_starts, fit_fails, fit_on, fit_ends}
 use Rattle.tables.proofs.are_fit.Goals as goal
 

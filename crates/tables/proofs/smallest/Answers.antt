@@ -1,4 +1,5 @@
 use borrow.Author.Rules.{rules}
+use Prim.Native.Nat.{◌-◌}
 use Rattle.tables.proofs.SecondReturns.{seek_starts, seek_on, seek_ends}
 use Rattle.tables.proofs.smallest.Goals as goal
 

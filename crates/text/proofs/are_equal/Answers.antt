@@ -1,5 +1,5 @@
 use native.Mathlib.Omega.{arith}
-use Prim.Native.Nat.{◌+◌}
+use Prim.Native.Nat.{◌+◌, ◌-◌}
 use mathlib.Core.Path.{refl}
 use Rattle.text.proofs.Compare.{equal_long, equal_done, equal_more, equal_less, equal_on, equal_off}
 use Rattle.text.proofs.are_equal.Goals as goal

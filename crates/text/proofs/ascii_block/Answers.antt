@@ -1,4 +1,5 @@
 use native.Mathlib.Omega.{arith}
+use Prim.Native.Nat.{◌-◌}
 use mathlib.Core.Path.{refl}
 use Rattle.text.proofs.Steps.{passed_none, passed_block, passed_yes}
 use Rattle.text.proofs.ascii_block.Goals as goal

@@ -2,6 +2,7 @@
 use Prim.Native.Nat.{◌+◌, ◌-◌, ◌≤◌}
 use mathlib.Core.Path.{◌≡◌}
 use mathlib.Core.Bool.{true}
+use mathlib.Core.List.{[]}
 use Rattle.text.specs.Passed.{Passed}
 use Rattle.text.proofs.ascii_block.Given as goal
 

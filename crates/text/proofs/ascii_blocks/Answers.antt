@@ -1,4 +1,5 @@
 use native.Mathlib.Omega.{arith}
+use Prim.Native.Nat.{◌-◌}
 use mathlib.Core.Path.{refl}
 use Rattle.text.proofs.Steps.{passed_none, passed_on}
 use Rattle.text.proofs.ascii_blocks.Goals as goal

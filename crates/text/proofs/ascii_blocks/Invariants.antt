@@ -1,6 +1,7 @@
 -- `text::ascii_blocks` meets its contract. The loop's invariant: the blocks so far are passed.
 use Prim.Native.Nat.{◌-◌, ◌≤◌}
 use mathlib.Core.Bool.{true}
+use mathlib.Core.List.{[]}
 use lib.ListN.{length}
 use Rattle.text.specs.Passed.{Passed}
 use Rattle.text.proofs.ascii_blocks.Given as goal

@@ -1,6 +1,7 @@
 -- `text::ascii_bytes` meets its contract. The loop's invariant: the bytes so far are passed.
 use Prim.Native.Nat.{◌-◌, ◌≤◌}
 use mathlib.Core.Bool.{true}
+use mathlib.Core.List.{[]}
 use Rattle.text.specs.Passed.{Passed}
 use Rattle.text.proofs.ascii_bytes.Given as goal
 

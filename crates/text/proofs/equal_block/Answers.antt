@@ -1,4 +1,5 @@
 use native.Mathlib.Omega.{arith}
+use Prim.Native.Nat.{◌-◌}
 use Rattle.text.proofs.Compare.{block_start, block_more, block_done}
 use Rattle.text.proofs.equal_block.Goals as goal
 

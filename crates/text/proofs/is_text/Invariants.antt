@@ -1,6 +1,7 @@
 -- `text::is_text` meets its contract. The loop's invariant: whole characters reach up to `at`.
 use Prim.Native.Nat.{◌-◌, ◌≤◌}
 use mathlib.Core.Bool.{true}
+use mathlib.Core.List.{[]}
 use lib.ListN.{length}
 use Rattle.text.specs.Passed.{Passed}
 use Rattle.text.proofs.is_text.Given as goal
