@@ -90,7 +90,7 @@ use Rattle.frames.proofs.Refusals as frames
 --   open::checked                                       r ≡ checked payload place                                     crates/open/src/lib.rt
 --   read::step, lookup                                  r ≡ step payload container last, ...                          crates/read/src/lib.rt
 --   views::part                                         r ≡ part payload place                                        crates/views/src/lib.rt
---   views::view, name_view                              now r ≡ view payload place, name_view payload container last
+--   views::view, name_view                              r.now ≡ view payload place, name_view payload container last
 --   values::double, signed, unsigned, ticks             r ≡ double payload place, ...                                 crates/values/src/lib.rt
 --   write::write                                        answer, output, work ≡ written list output work               crates/write/src/lib.rt
 --   answers::whole                                      text ≡ program input ++ what stood behind it                  crates/answers/src/lib.rt
