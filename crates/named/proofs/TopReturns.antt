@@ -39,3 +39,5 @@ pub with_top : (m : Modes) (s t : List ℕ) → length s ≤ length_limit → (x
     → t'' ≡ replicate (length t') 0 → ◌≡◌ {A = Checked} (record { answer = x; table = t'' }) (top_with m s t)
 unfolding top_with
 with_top m s t i x e t' t'' l h = rw (h, l.is, ← top_within_law m s i x e)
+
+pub ruleset laws = (top_long, top_within_law)

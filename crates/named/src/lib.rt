@@ -265,6 +265,7 @@ fn top(payload: &[u8], modes: Modes, table: &mut [u64]) -> Field
 
 // The check of a payload's top field, in a table of its own. A longer payload is given a larger one. The largest holds all names of a payload within the
 // limit that differ from one another: there are at most 21,929 (behind five bytes, one of no byte, 256 of one, the others of two, a length before each).
+#[tactic(auto, using(crate::proofs::TopReturns::laws))]
 pub fn check(payload: &[u8], modes: Modes) -> Field
     ensures { result ≡ top_within modes payload.now }
 {

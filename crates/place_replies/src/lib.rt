@@ -57,7 +57,8 @@ pub fn top(answer: Top, held: &mut [u64]) -> u32
 pub fn step(answer: Step, held: &mut [u64]) -> u32
     ensures { afterwards result held.new ≡ told 5 (step_reply answer) held.old }
 {
-    if held.len() < 5 {
+    let few = held.len() < 5;
+    if few {
         return replies::TOO_FEW;
     }
     match answer {

@@ -92,7 +92,8 @@ fn look<'a>(payload: &'a [u8], object: Place, form: Form, begin: usize, name: &'
         match step_in(payload, object, form, begin, at) {
             Step::Field(place, from) => {
                 let to = place.start;
-                if text::are_equal(&payload[from..to], name) {
+                let found = text::are_equal(&payload[from..to], name);
+                if found {
                     return Found::At(place);
                 }
                 at = place.end;

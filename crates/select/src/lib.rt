@@ -268,7 +268,8 @@ fn go_on(part: &[u8], source: Source, table: &mut [u64]) -> usize
     match divide::first_twin(part, table, n) {
         Divided::Unfit => 0,
         Divided::Done(least) => {
-            if least < 16777216 {
+            let stands = least < 16777216;
+            if stands {
                 return least;
             }
             pass_all(part, source, table)

@@ -32,3 +32,5 @@ module _ (m : Measured) (total room numbers : ℕ) where
 
           pub decided_done : z < length_limit → S.Ready i (z + 1) ≡ decided_of m total room numbers
           decided_done h = rw (e, le-ltb x total l, le-ltb numbers k q, lt-leb room z u, lt-leb length_limit z h)
+
+pub ruleset laws = (decided_refused, decided_after, decided_few, decided_small, decided_big, decided_done)

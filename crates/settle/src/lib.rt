@@ -27,6 +27,7 @@ pub enum Settled {
 }
 
 // What the measured field comes to: its own refusal; those that only the whole list shows, or the encoding's length.
+#[tactic(auto, using(crate::proofs::DecidedReturns::laws))]
 pub fn decided(measured: Measured, list: usize, room: usize, numbers: usize) -> Settled
     ensures { result ≡ decided_of measured list room numbers }
 {

@@ -48,11 +48,11 @@ slice_bounds-are_equal-end c =
           c.in-Field.is,
     )
 
-pub returns-then-are_equal : goal.returns-then-are_equal
-returns-then-are_equal c =
+pub returns-then-found : goal.returns-then-found
+returns-then-found c =
     look_found _ _ _ _ _ _ c.loop-at.invariant _
     c.step_in.ensures _ _ c.in-Field.is _
-    c.are_equal.ensures c.if-are_equal.true
+    c.are_equal-found.ensures c.if-found.true
 
 pub loop-at-smaller : goal.loop-at-smaller
 loop-at-smaller c =
@@ -69,8 +69,8 @@ pub loop-at-preserved : goal.loop-at-preserved
 loop-at-preserved c =
     look_on _ _ _ _ _ _ c.loop-at.invariant _
     c.step_in.ensures _ _ c.in-Field.is _
-    c.are_equal.ensures c.requires.3
-    c.requires.1 c.if-are_equal.false
+    c.are_equal-found.ensures c.requires.3
+    c.requires.1 c.if-found.false
 
 pub returns-in-NoMore : goal.returns-in-NoMore
 returns-in-NoMore c = look_none _ _ _ _ _ _ c.loop-at.invariant _ c.step_in.ensures c.in-NoMore.is

@@ -13,11 +13,11 @@ enum_told-1 c = search laws
 pub enum_known-least : goal.enum_known-least
 enum_known-least c = search laws
 
-pub shape_of-table-then-least-lt16777216 : goal.shape_of-table-then-least-lt16777216
-shape_of-table-then-least-lt16777216 c = search laws
+pub shape_of-table-then-stands : goal.shape_of-table-then-stands
+shape_of-table-then-stands c = search laws
 
-pub returns-then-least-lt16777216 : goal.returns-then-least-lt16777216
-returns-then-least-lt16777216 c = search laws
+pub returns-then-stands : goal.returns-then-stands
+returns-then-stands c = search laws
 
 pub pass_all-requires : goal.pass_all-requires
 pass_all-requires c = search laws
@@ -28,8 +28,8 @@ shape_of-table-in-Unfit c = search laws
 pub returns-in-Unfit : goal.returns-in-Unfit
 returns-in-Unfit c = search laws
 
-pub shape_of-table-else-least-lt16777216 : goal.shape_of-table-else-least-lt16777216
-shape_of-table-else-least-lt16777216 c = search laws
+pub shape_of-table-else-stands : goal.shape_of-table-else-stands
+shape_of-table-else-stands c = search laws
 
-pub returns-else-least-lt16777216 : goal.returns-else-least-lt16777216
-returns-else-least-lt16777216 c = search laws
+pub returns-else-stands : goal.returns-else-stands
+returns-else-stands c = search laws
