@@ -1,4 +1,5 @@
 -- What was put into the text is the answer's, case by case.
+use Rattle.std.specs.Prelude.{Result, Ok, Err, is_some}
 use Prim.Native.Nat.{ℕ, ◌+◌, ◌*◌, ◌≤◌, min}
 use native.Mathlib.Omega.{arith}
 use mathlib.Core.Path.{◌≡◌, refl, sym, ap, ◌∙◌}
@@ -7,14 +8,14 @@ use mathlib.Core.List.{List, ◌++◌}
 use lib.ListN.{length, take, drop, length-append}
 use lib.Seq.{sets-eq, length-take-le, take_at, take_all, take-length}
 use lib.Dec.{ltb}
+use Rattle.std.specs.Prelude.{is_some}
 use borrow.Author.Tests.{ltb-true, ltb-false}
 use Rattle.frames.specs.declared.Refusal.{Refusal}
 use Rattle.frames.specs.declared.Refusal.TheVariants.{BadFrame}
-use Rattle.frames.specs.declared.Written.{Written}
-use Rattle.frames.specs.declared.Written.TheVariants.{Done, Refused}
+use Rattle.frames.specs.declared.Refused.{Refused}
 use Rattle.format.specs.Encoding.{concat}
 use Rattle.container.specs.Numbers.{cleared}
-use Rattle.frames.specs.Writer.{refusal_number, Outcome, refuse, wrote, outcome, Result, result_of, written}
+use Rattle.frames.specs.Writer.{refusal_number, Outcome, refuse, wrote, outcome, Afterwards, result_of, written, refusal_at}
 use Rattle.frames.specs.Program.{hex_byte, decimal, word_refused, word_at, line_end, typed, printed}
 use Rattle.hexadecimal.specs.declared.Typing.{Typing}
 use Rattle.answers.specs.declared.Printed.{Printed}
@@ -54,24 +55,24 @@ encoding_length e z = omega (arith, length-append (concat hex_byte e) line_end, 
 -- ---- what the writer answered
 
 module _ (s o w text : List ℕ) (room : length o ≡ 65536) (numbers : length w ≡ 16384) (space : length text ≡ 131073)
-    (x : Written) (p q : List ℕ) (e : record { answer = x; output = p; work = q } ≡ written s o w) where
+    (x : Result ℕ Refused) (p q : List ℕ) (e : record { answer = x; output = p; work = q } ≡ written s o w) where
   by_outcome : record { answer = x; output = p; work = q } ≡ result_of (outcome 65536 16384 s) o w
   unfolding written
   by_outcome = e ∙ rw (room, numbers)
 
   answer_is : (y : Printed) (t : List ℕ) → record { answer = y; text = t; output = p; work = q } ≡ told (outcome 65536 16384 s) text p q
       → record { answer = y; text = t; output = p; work = q } ≡ answered_of (typed s) text o w
-  answer_is y t h = h ∙ ap (λ (r : Result). told (outcome 65536 16384 s) text r.output r.work) e
+  answer_is y t h = h ∙ ap (λ (r : Afterwards). told (outcome 65536 16384 s) text r.output r.work) e
 
-  module _ (n : ℕ) (i : x ≡ Done n) where
+  module _ (n : ℕ) (i : x ≡ Ok n) where
     pub done_inside : n ≤ length p
     done_inside = at (outcome 65536 16384 s) by_outcome
       where
         at : (r : Outcome) → record { answer = x; output = p; work = q } ≡ result_of r o w → n ≤ length p
-        at (refuse k m) h = absurd (let z : ◌≡◌ {A = ℕ} 0 1 = cc (ap (λ (a : Result). a.answer) h, i) in omega arith)
+        at (refuse k m) h = absurd (let z : ◌≡◌ {A = ℕ} 0 1 = cc (ap (λ (a : Afterwards). a.answer) h, i) in omega arith)
         at (wrote f z) h =
-            let y : n ≡ length f = cc (ap (λ (a : Result). a.answer) h, i) in
-            let v : p ≡ f ++ drop (length f) o = ap (λ (a : Result). a.output) h in
+            let y : n ≡ length f = cc (ap (λ (a : Afterwards). a.answer) h, i) in
+            let v : p ≡ f ++ drop (length f) o = ap (λ (a : Afterwards). a.output) h in
             omega (arith, ap length v, length-append f (drop (length f) o))
 
     pub done_length : n ≡ length (take n p)
@@ -87,30 +88,31 @@ module _ (s o w text : List ℕ) (room : length o ≡ 65536) (numbers : length w
 
         at : (b : Outcome) → record { answer = x; output = p; work = q } ≡ result_of b o w
             → record { answer = record { length = r; refused = false }; text = t; output = p; work = q } ≡ told b text p q
-        at (refuse c m) h = absurd (let z : ◌≡◌ {A = ℕ} 0 1 = cc (ap (λ (a : Result). a.answer) h, i) in omega arith)
+        at (refuse c m) h = absurd (let z : ◌≡◌ {A = ℕ} 0 1 = cc (ap (λ (a : Afterwards). a.answer) h, i) in omega arith)
         at (wrote g z) h =
-            let y : n ≡ length g = cc (ap (λ (a : Result). a.answer) h, i) in
-            let v : p ≡ g ++ drop (length g) o = ap (λ (a : Result). a.output) h in
+            let y : n ≡ length g = cc (ap (λ (a : Afterwards). a.answer) h, i) in
+            let v : p ≡ g ++ drop (length g) o = ap (λ (a : Afterwards). a.output) h in
             let u : take n p ≡ g = ap (take n) v ∙ take_at g (drop (length g) o) n (sym y) in
             told_by (wrote g z) text t p q r (omega (arith, encoding_length g z, done_inside)) (was_put ∙ ap (λ a. put (concat hex_byte a ++ line_end) text 0) u)
 
-  pub answer_refused : (k : Refusal) (m : ℕ) → x ≡ Refused k m → (v : ℕ) → v ≡ refusal_number k → (r : ℕ) (t : List ℕ)
-      → record { next = r; text = t } ≡ put_in 35 (word_refused ++ decimal 2 v ++ word_at ++ decimal 20 m ++ line_end) text
+  pub answer_refused : (f : Refused) → x ≡ Err f → (v : ℕ) → v ≡ refusal_number f.refusal → (r : ℕ) (t : List ℕ)
+      → record { next = r; text = t } ≡ put_in 35 (word_refused ++ decimal 2 v ++ word_at ++ decimal 20 f.place ++ line_end) text
       → record { answer = record { length = r; refused = true }; text = t; output = p; work = q } ≡ answered_of (typed s) text o w
-  answer_refused k m i v j r t f = answer_is (record { length = r; refused = true }) t (at (outcome 65536 16384 s) by_outcome)
+  answer_refused f i v j r t g = answer_is (record { length = r; refused = true }) t (at (outcome 65536 16384 s) by_outcome)
     where
       at : (b : Outcome) → record { answer = x; output = p; work = q } ≡ result_of b o w
           → record { answer = record { length = r; refused = true }; text = t; output = p; work = q } ≡ told b text p q
       at (refuse c y) h =
-          let a : c ≡ k = cc (ap (λ (a : Result). a.answer) h, i) in
-          let b : y ≡ m = cc (ap (λ (a : Result). a.answer) h, i) in
-          told_by (refuse c y) text t p q r (omega (arith, refused_length c y)) (put_inside 35 _ text (omega arith) _ f ∙ rw (j, a, b))
-      at (wrote g z) h = absurd (let z : ◌≡◌ {A = ℕ} 0 1 = cc (ap (λ (a : Result). a.answer) h, i) in omega arith)
+          let same : refusal_at c y ≡ f = cc (ap (λ (a : Afterwards). a.answer) h, i) in
+          let a : c ≡ f.refusal = ap (λ b. b.refusal) same in
+          let b : y ≡ f.place = ap (λ b. b.place) same in
+          told_by (refuse c y) text t p q r (omega (arith, refused_length c y)) (put_inside 35 _ text (omega arith) _ g ∙ rw (j, a, b))
+      at (wrote e z) h = absurd (let z : ◌≡◌ {A = ℕ} 0 1 = cc (ap (λ (a : Afterwards). a.answer) h, i) in omega arith)
 
 -- ---- what was typed
 
 module _ (t : Typing) (l text o w : List ℕ) where
-  pub answer_mistyped : length text ≡ 131073 → (t.begun || t.wrong) ≡ true → (r : ℕ) (k z : List ℕ) → z ≡ cleared w
+  pub answer_mistyped : length text ≡ 131073 → (is_some t.digit || t.wrong) ≡ true → (r : ℕ) (k z : List ℕ) → z ≡ cleared w
       → record { next = r; text = k } ≡ put_in 35 (word_refused ++ decimal 2 2 ++ word_at ++ decimal 20 t.formed ++ line_end) text
       → record { answer = record { length = r; refused = true }; text = k; output = o; work = z } ≡ answered t l text o w
   unfolding answered cleared
@@ -129,7 +131,7 @@ module _ (t : Typing) (l text o w : List ℕ) where
   pub held_length : (n : ℕ) → n ≡ min t.formed (length l) → n ≡ length (take n l)
   held_length n e = sym (length-take-le n l (omega arith))
 
-  pub answer_typed : (t.begun || t.wrong) ≡ false → (n : ℕ) → n ≡ min t.formed (length l) → (a : Answered)
+  pub answer_typed : (is_some t.digit || t.wrong) ≡ false → (n : ℕ) → n ≡ min t.formed (length l) → (a : Answered)
       → a ≡ answered_of (typed (take n l)) text o w → a ≡ answered t l text o w
   unfolding answered
   answer_typed h n e a f = f ∙ rw (h, e, take_min t.formed)

@@ -1,6 +1,6 @@
 -- What the program answers to what was typed, and what all that it lends holds afterwards (document 01, "The write list", its last paragraph). `program`, of
 -- all that was read, is in frames' Program.antt, and program's proofs/InParts.antt says that this gives it, in whatever parts it was read.
-use Rattle.std.specs.Prelude.{ℕ, Bool, true, false, ◌||◌, cond, List, ◌++◌, length, take, drop}
+use Rattle.std.specs.Prelude.{ℕ, Bool, true, false, ◌||◌, cond, List, ◌++◌, length, take, drop, is_some}
 use Rattle.frames.specs.Writer.{Outcome, refuse, wrote, zeros, written}
 use Rattle.frames.specs.Program.{Typed, typed, mistyped, printed, program_of}
 use Rattle.hexadecimal.specs.declared.Typing.{Typing}
@@ -8,7 +8,7 @@ use Rattle.answers.specs.declared.Printed.{Printed}
 
 -- mistyped at the byte being formed; or the bytes that stand at the list's front. Where more are formed than the list has room for, it is all of the list
 abbrev pub typed_of : Typing → List ℕ → Typed
-typed_of t list = cond (t.begun || t.wrong) (mistyped t.formed) (typed (take t.formed list))
+typed_of t list = cond (is_some t.digit || t.wrong) (mistyped t.formed) (typed (take t.formed list))
 
 -- the answer, and what was lent
 pub record Answered : Type 0 where

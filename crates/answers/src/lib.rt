@@ -5,7 +5,6 @@ ghost use Rattle.frames.specs.Program.{typed, bytes_typed, program};
 ghost use Rattle.hexadecimal.specs.Typing.{start, fed};
 ghost use Rattle.answers.specs.Answer.{afterwards, answered_of, answered};
 
-use frames::Written;
 use hexadecimal::Typing;
 
 // What the program lends. A list has at most 65,536 bytes, and one byte more tells one that is longer.
@@ -32,17 +31,14 @@ fn answer_to(list: &[u8], out: &mut [u8], numbers: &mut [u32], text: &mut [u8]) 
         ≡ answered_of (typed list.now) text.old out.old numbers.old }
 {
     match write::write(list, out, numbers) {
-        Written::Done(size) => {
-            let length = printing::put_encoding(&out[..size], text);
+        Ok(size) => Printed {
+            length: printing::put_encoding(&out[..size], text),
+            refused: false,
+        },
+        Err(refused) => {
+            let number = frames::refusal_number(refused.refusal);
             Printed {
-                length: length,
-                refused: false,
-            }
-        }
-        Written::Refused(refusal, place) => {
-            let length = printing::put_refused(frames::refusal_number(refusal), place as u64, text);
-            Printed {
-                length: length,
+                length: printing::put_refused(number, refused.place as u64, text),
                 refused: true,
             }
         }
@@ -53,10 +49,7 @@ fn answer_to(list: &[u8], out: &mut [u8], numbers: &mut [u32], text: &mut [u8]) 
 fn held(formed: u64, list: &[u8]) -> usize
     ensures { result ≡ min formed (length list.now) }
 {
-    if formed < (list.len() as u64) {
-        return formed as usize;
-    }
-    list.len()
+    formed.min(list.len() as u64) as usize
 }
 
 // What the program answers to what was typed.
@@ -70,11 +63,10 @@ pub fn answer(
     ensures { afterwards result text.new out.new numbers.new
         ≡ answered typing list.now text.old out.old numbers.old }
 {
-    if typing.begun | typing.wrong {
+    if typing.digit.is_some() | typing.wrong {
         container::clear(numbers);
-        let length = printing::put_refused(2, typing.formed, text);
         return Printed {
-            length: length,
+            length: printing::put_refused(2, typing.formed, text),
             refused: true,
         };
     }

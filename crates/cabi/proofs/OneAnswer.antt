@@ -13,7 +13,7 @@ use Rattle.places.specs.Places.{checked, top, step, part, lookup}
 use Rattle.places.specs.Values.{double, signed, unsigned, ticks}
 use Rattle.replies.specs.Number.{truth}
 use Rattle.sending.specs.Sent.{sent}
-use Rattle.replies.specs.Reply.{told, varuint, double_reply, signed_reply, unsigned_reply, ticks_reply}
+use Rattle.replies.specs.Reply.{told, varuint, number_reply, signed_reply, ticks_reply}
 use Rattle.place_replies.specs.PlaceReply.{place_of, after_of, checked_reply, top_reply, step_reply, part_reply, found_reply}
 
 pub varuint_one : (s answer : List ℕ) → One (varuint s answer)
@@ -58,14 +58,14 @@ module _ (payload : List ℕ) where
       pub lookup_one : (name : List ℕ) → One (told 4 (found_reply (lookup payload at name)) answer)
       lookup_one name = one (told 4 (found_reply (lookup payload at name)) answer)
 
-      pub double_one : One (told 1 (double_reply (double payload at)) answer)
-      double_one = one (told 1 (double_reply (double payload at)) answer)
+      pub double_one : One (told 1 (number_reply (double payload at)) answer)
+      double_one = one (told 1 (number_reply (double payload at)) answer)
 
       pub signed_one : One (told 1 (signed_reply (signed payload at)) answer)
       signed_one = one (told 1 (signed_reply (signed payload at)) answer)
 
-      pub unsigned_one : One (told 1 (unsigned_reply (unsigned payload at)) answer)
-      unsigned_one = one (told 1 (unsigned_reply (unsigned payload at)) answer)
+      pub unsigned_one : One (told 1 (number_reply (unsigned payload at)) answer)
+      unsigned_one = one (told 1 (number_reply (unsigned payload at)) answer)
 
       pub ticks_one : One (told 1 (ticks_reply (ticks payload at)) answer)
       ticks_one = one (told 1 (ticks_reply (ticks payload at)) answer)

@@ -1,6 +1,7 @@
 #![tactic(auto)]
 // Calls for C and Rust (include/ajuqvane.h). A truth is answered as 1 or 0. The calls on places answer 0, where the lent numbers then start with what
 // is asked for; the number of the fault met; or 3 for no more, 5 for not there, 6 for a wrong kind, 7 for out of range, 12 for too few numbers lent.
+// C lends a place as its four numbers, so the calls take these and no struct.
 ghost use Rattle.std.specs.Prelude.{◌≡◌};
 ghost use Rattle.text.specs.Equal.{equal};
 ghost use Rattle.text.specs.Utf8.{is_text};
@@ -11,7 +12,7 @@ ghost use Rattle.validate.specs.Asked.{mask_with};
 ghost use Rattle.places.specs.Places.{checked, top, step, part, lookup};
 ghost use Rattle.places.specs.Values.{double, signed, unsigned, ticks};
 ghost use Rattle.replies.specs.Number.{truth, afterwards};
-ghost use Rattle.replies.specs.Reply.{told, varuint, double_reply, signed_reply, unsigned_reply, ticks_reply};
+ghost use Rattle.replies.specs.Reply.{told, varuint, number_reply, signed_reply, ticks_reply};
 ghost use Rattle.place_replies.specs.PlaceReply.{place_of, after_of, checked_reply, top_reply, step_reply, part_reply, found_reply};
 ghost use Rattle.sending.specs.Sent.{sent};
 
@@ -156,7 +157,7 @@ pub extern "C" fn ajuqvane_double(
     answer: &mut [u64],
 ) -> u32
     ensures { afterwards result answer.new
-        ≡ told 1 (double_reply (double payload.now (place_of kind start end depth))) answer.old }
+        ≡ told 1 (number_reply (double payload.now (place_of kind start end depth))) answer.old }
 {
     cabi::ajuqvane_double(payload, kind, start, end, depth, answer)
 }
@@ -188,7 +189,7 @@ pub extern "C" fn ajuqvane_unsigned(
     answer: &mut [u64],
 ) -> u32
     ensures { afterwards result answer.new
-        ≡ told 1 (unsigned_reply (unsigned payload.now (place_of kind start end depth))) answer.old }
+        ≡ told 1 (number_reply (unsigned payload.now (place_of kind start end depth))) answer.old }
 {
     cabi::ajuqvane_unsigned(payload, kind, start, end, depth, answer)
 }

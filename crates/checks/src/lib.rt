@@ -5,57 +5,56 @@ ghost use Rattle.std.specs.Prelude.{◌≡◌, false};
 ghost use Rattle.format.specs.Payload.{fields_in, items_in};
 ghost use Rattle.checks.specs.Checks.{namelessly, field_at, contents_at};
 
-use contents::{Contents, Field};
+use contents::Field;
 use faults::{Faults, Modes};
 use format::{Form, Stop};
 use head::Met;
 
 // A field at the front of a part. (The part is taken anew as in `head::meet_of`.)
 #[cycle(check_array_check_field_check_object)]
-fn check_field(part: &[u8], form: Form, modes: Modes, left: usize, faults: Faults) -> Field
+fn check_field(
+    part: &[u8],
+    form: Form,
+    modes: Modes,
+    left: usize,
+    faults: Faults,
+) -> Result<Field, Stop>
     requires { modes.names ≡ false }
     ensures { result ≡ field_at form modes left faults part.now }
 {
     if left == 0 {
-        return Field::Stop(Stop::TooDeep);
+        return Err(Stop::TooDeep);
     }
-    match head::meet_of(&part[0..], form, modes, faults) {
-        Met::Stop(stop) => Field::Stop(stop),
+    let met = head::meet_of(&part[0..], form, modes, faults)?;
+    match met {
         Met::Leaf {
             kind,
-            name,
-            start,
             end,
-            faults: met,
-        } => Field::Read {
-            kind: kind,
-            end: end,
-            faults: met,
-        },
+            faults,
+            ..
+        } => Ok(Field { kind, end, faults }),
         Met::Fields {
             kind,
-            name,
-            start,
-            form: inner,
+            form,
             begin,
             end,
-            faults: met,
+            faults,
+            ..
         } => contents::close(
-            check_object(&part[begin..end], inner, modes, left - 1, met),
+            check_object(&part[begin..end], form, modes, left - 1, faults),
             kind,
             end,
         ),
         Met::Items {
             kind,
-            name,
-            start,
-            form: inner,
+            form,
             count,
             begin,
             end,
-            faults: met,
+            faults,
+            ..
         } => contents::close(
-            check_array(&part[begin..end], inner, count, modes, left - 1, met),
+            check_array(&part[begin..end], form, count, modes, left - 1, faults),
             kind,
             end,
         ),
@@ -64,35 +63,32 @@ fn check_field(part: &[u8], form: Form, modes: Modes, left: usize, faults: Fault
 
 // The fields of an object, which fill the part. There are no more of them than bytes.
 #[cycle(check_array_check_field_check_object)]
-fn check_object(part: &[u8], form: Form, modes: Modes, left: usize, faults: Faults) -> Contents
+fn check_object(
+    part: &[u8],
+    form: Form,
+    modes: Modes,
+    left: usize,
+    faults: Faults,
+) -> Result<Faults, Stop>
     requires { modes.names ≡ false }
     ensures { result ≡ contents_at (fields_in form part.now) modes left faults }
 {
     let mut at = 0;
+    // No `for` over the bytes: a turn takes a field, and `room` only says that there is an end.
     let mut room = part.len();
     let mut met = faults;
     let mut run: u8 = 0;
     while at < part.len() {
         if room == 0 {
-            return Contents::Stop(Stop::Early);
+            return Err(Stop::Early);
         }
-        match check_field(&part[at..], form, modes, left, met) {
-            Field::Stop(stop) => {
-                return Contents::Stop(stop);
-            }
-            Field::Read {
-                kind,
-                end,
-                faults: next,
-            } => {
-                run = run::add(run, kind);
-                met = next;
-                at += end;
-                room -= 1;
-            }
-        }
+        let field = check_field(&part[at..], form, modes, left, met)?;
+        run = run::add(run, field.kind);
+        met = field.faults;
+        at += field.end;
+        room -= 1;
     }
-    Contents::Read(contents::end_object(form, modes, met, run, false))
+    Ok(contents::end_object(form, modes, met, run, false))
 }
 
 // The items of an array, which fill the part.
@@ -104,7 +100,7 @@ fn check_array(
     modes: Modes,
     left: usize,
     faults: Faults,
-) -> Contents
+) -> Result<Faults, Stop>
     requires { modes.names ≡ false }
     ensures { result ≡ contents_at (items_in form count part.now) modes left faults }
 {
@@ -113,39 +109,33 @@ fn check_array(
         return contents::check_sizes(part.len(), count, size, left, faults);
     }
     let mut at = 0;
-    let mut room = count;
     let mut met = faults;
     let mut run: u8 = 0;
-    while 0 < room {
-        match check_field(&part[at..], form, modes, left, met) {
-            Field::Stop(stop) => {
-                return Contents::Stop(stop);
-            }
-            Field::Read {
-                kind,
-                end,
-                faults: next,
-            } => {
-                run = run::add(run, kind);
-                met = next;
-                at += end;
-                room -= 1;
-            }
-        }
+    for read in 0..count {
+        let field = check_field(&part[at..], form, modes, left, met)?;
+        run = run::add(run, field.kind);
+        met = field.faults;
+        at += field.end;
     }
     if at < part.len() {
-        return Contents::Stop(Stop::Early);
+        return Err(Stop::Early);
     }
-    Contents::Read(contents::end_array(form, modes, met, run))
+    Ok(contents::end_array(form, modes, met, run))
 }
 
 // A field at the front of a part, with so many levels left, beside the faults met before.
-pub fn check(part: &[u8], form: Form, format: bool, left: usize, faults: Faults) -> Field
+pub fn check(
+    part: &[u8],
+    form: Form,
+    format: bool,
+    left: usize,
+    faults: Faults,
+) -> Result<Field, Stop>
     ensures { result ≡ field_at form (namelessly format) left faults part.now }
 {
     let modes = Modes {
         names: false,
-        format: format,
+        format,
     };
     check_field(part, form, modes, left, faults)
 }

@@ -1,4 +1,3 @@
 pub mod OrderLaws
-mod CompareReturns
 pub mod PinnedCompare
 pub mod OneAnswer

@@ -2,125 +2,105 @@
 use Prim.Native.Nat.{ℕ, ◌≤◌, ◌<◌}
 use native.Mathlib.Omega.{arith}
 use mathlib.Core.Path.{◌≡◌, refl, sym, ap, ◌∙◌}
-use mathlib.Core.Bool.{Bool, true, false, cond}
-use mathlib.Core.List.{List, [], ◌∷◌}
-use lib.Dec.{ltb}
-use borrow.Author.Tests.{ltb-true, ltb-false, lt-ltb, le-ltb}
+use mathlib.Core.Bool.{true, false}
+use mathlib.Core.List.{List, ◌∷◌}
+use lib.Pointwise.{bytes_decides}
 use Rattle.number.proofs.Clash.{clash}
-use Rattle.compare.specs.declared.Order.{Order}
-use Rattle.compare.specs.declared.Order.TheVariants as O
+use Rattle.std.specs.declared.cmp.Ordering.{Ordering}
+use Rattle.std.specs.declared.cmp.Ordering.TheVariants.{Less, Equal, Greater}
+use Rattle.std.specs.Ordering.{MatchOrdering, nat_cmp, ordering_then, ordering_reverse, is_le, is_eq}
+use Rattle.std.specs.Cmp.{ranks, nat_cmp_is, tied_itself}
+use Rattle.std.specs.Cmp.Lexicographic.{slice_cmp, texts_ties, nat_list_cmp_total}
 use Rattle.entries.specs.Entry.{begin_in, name_in}
 use Rattle.entries.proofs.LeastLaws.{name_key}
-use Rattle.compare.specs.Order.{order, order_of, or_else, is_upto, upto}
+use Rattle.compare.specs.Order.{order, upto}
 
--- ---- two names that begin with these numbers
+-- ---- names
 
+pub order_refl : (s : List ℕ) → order s s ≡ Equal
+unfolding order
+order_refl s = tied_itself nat_list_cmp_total s
+
+pub order_same : (s t : List ℕ) → order s t ≡ Equal → s ≡ t
+unfolding order
+order_same s t h = (bytes_decides s t).0 (texts_ties s t ∙ ap is_eq h)
+
+pub order_flip : (s t : List ℕ) → order s t ≡ Greater → order t s ≡ Less
+unfolding order
+order_flip s t h = nat_list_cmp_total.antisymm t s ∙ ap ordering_reverse h
+
+pub order_trans : (s t u : List ℕ) → order s t ≡ Less → order t u ≡ Less → order s u ≡ Less
+unfolding order
+order_trans s t u h i = nat_list_cmp_total.trans s t u h i
+
+-- two names that begin with these numbers
 module _ (a b : ℕ) (s t : List ℕ) where
-  pub order_lt : a < b → order (a ∷ s) (b ∷ t) ≡ O.Less
+  pub order_apart : (a ≡ b → ⊥) → nat_cmp a b ≡ order (a ∷ s) (b ∷ t)
   unfolding order
-  order_lt l = rw (lt-ltb a b l)
-
-  pub order_gt : b < a → order (a ∷ s) (b ∷ t) ≡ O.More
-  unfolding order
-  order_gt l = rw (le-ltb a b (omega arith), lt-ltb b a l)
-
-  pub order_eq : a ≡ b → order (a ∷ s) (b ∷ t) ≡ order s t
-  unfolding order
-  order_eq l = rw (le-ltb a b (omega arith), le-ltb b a (omega arith))
-
-  -- what is answered, by cases of the first numbers
-  order_cases : {X : Type 0} (o : Order) → order (a ∷ s) (b ∷ t) ≡ o → (a < b → O.Less ≡ o → X) → (b < a → O.More ≡ o → X) → (a ≡ b → order s t ≡ o → X) → X
-  unfolding order
-  order_cases {X} o h f g k = go (ltb a b) (ltb b a) refl refl h
+  order_apart f = go (nat_cmp a b) (ranks a b)
     where
-      go : (p q : Bool) → ltb a b ≡ p → ltb b a ≡ q → cond p O.Less (cond q O.More (order s t)) ≡ o → X
-      go true q e i h = f (ltb-true a b e) h
-      go false true e i h = g (ltb-true b a i) h
-      go false false e i h = k (omega (arith, ltb-false a b e, ltb-false b a i)) h
+      go : (r : Ordering) → MatchOrdering r (a < b) (a ≡ b) (b < a) → r ≡ ordering_then r (slice_cmp nat_cmp s t)
+      go Less h = refl
+      go Equal h = absurd (f h)
+      go Greater h = refl
 
-pub order_refl : (s : List ℕ) → order s s ≡ O.Same
-unfolding order
-order_refl [] = refl
-order_refl (a ∷ s) = order_eq a a s s refl ∙ order_refl s
+  pub order_level : a ≡ b → order s t ≡ order (a ∷ s) (b ∷ t)
+  unfolding order
+  order_level h = ap (λ (r : Ordering). ordering_then r (slice_cmp nat_cmp s t)) (nat_cmp_is a b Equal h)
 
-pub order_same : (s t : List ℕ) → order s t ≡ O.Same → s ≡ t
-unfolding order
-order_same [] [] h = refl
-order_same [] (b ∷ t) h = clash cc
-order_same (a ∷ s) [] h = clash cc
-order_same (a ∷ s) (b ∷ t) h = order_cases a b s t O.Same h (λ l i. clash cc) (λ l i. clash cc) (λ e i. let j : s ≡ t = order_same s t i in cc)
-
-pub order_flip : (s t : List ℕ) → order s t ≡ O.More → order t s ≡ O.Less
-unfolding order
-order_flip [] [] h = clash cc
-order_flip [] (b ∷ t) h = clash cc
-order_flip (a ∷ s) [] h = refl
-order_flip (a ∷ s) (b ∷ t) h =
-    order_cases a b s t O.More h (λ l i. clash cc) (λ l i. order_lt b a t s l) (λ e i. order_eq b a t s (sym e) ∙ order_flip s t i)
-
-pub order_trans : (s t u : List ℕ) → order s t ≡ O.Less → order t u ≡ O.Less → order s u ≡ O.Less
-unfolding order
-order_trans [] [] u h i = clash cc
-order_trans [] (b ∷ t) [] h i = clash cc
-order_trans [] (b ∷ t) (c ∷ u) h i = refl
-order_trans (a ∷ s) [] u h i = clash cc
-order_trans (a ∷ s) (b ∷ t) [] h i = clash cc
-order_trans (a ∷ s) (b ∷ t) (c ∷ u) h i =
-    order_cases a b s t O.Less h
-    (λ l _. order_cases b c t u O.Less i (λ m _. order_lt a c s u (omega arith)) (λ m j. clash cc) (λ e k. order_lt a c s u (omega arith)))
-    (λ l j. clash cc)
-    (λ d j. order_cases b c t u O.Less i (λ m _. order_lt a c s u (omega arith)) (λ m k. clash cc) (λ e k. order_eq a c s u (d ∙ e) ∙ order_trans s t u j k))
-
-pub order_not : {X : Type 0} (s : List ℕ) → order s s ≡ O.Less → X
-order_not s h = let z : O.Same ≡ O.Less = sym (order_refl s) ∙ h in clash cc
+pub order_not : {X : Type 0} (s : List ℕ) → order s s ≡ Less → X
+order_not s h = let z : Equal ≡ Less = sym (order_refl s) ∙ h in clash cc
 
 -- ---- entries
 
 -- x is up to y: its name is less, or they have one name and its number is no greater
 pub data Upto (s : List ℕ) (x y : ℕ) : Type 0 where
-  less : order (name_in s x) (name_in s y) ≡ O.Less → Upto s x y
+  less : order (name_in s x) (name_in s y) ≡ Less → Upto s x y
   same : name_in s x ≡ name_in s y → x ≤ y → Upto s x y
 
-module _ (s : List ℕ) (x y : ℕ) where
-  by_order : (o : Order) → order (name_in s x) (name_in s y) ≡ o → upto s x y ≡ is_upto (or_else o (order_of x y))
-  unfolding upto
-  by_order o h = ap (λ (p : Order). is_upto (or_else p (order_of x y))) h
+-- the two numbers, by what `cmp` answers
+numbers_are : (x y : ℕ) (o : Ordering) → MatchOrdering o (x < y) (x ≡ y) (y < x) → is_le o ≡ true → x ≤ y
+numbers_are x y Less l h = omega arith
+numbers_are x y Equal l h = omega arith
+numbers_are x y Greater l h = clash cc
 
-  of_numbers : (p q : Bool) → ltb x y ≡ p → ltb y x ≡ q → is_upto (cond p O.Less (cond q O.More O.Same)) ≡ true → x ≤ y
-  of_numbers true q e i h = omega (arith, ltb-true x y e)
-  of_numbers false true e i h = clash cc
-  of_numbers false false e i h = ltb-false y x i
+numbers_are_not : (x y : ℕ) (o : Ordering) → MatchOrdering o (x < y) (x ≡ y) (y < x) → is_le o ≡ false → y < x
+numbers_are_not x y Less l h = clash cc
+numbers_are_not x y Equal l h = clash cc
+numbers_are_not x y Greater l h = l
+
+numbers_upto : (x y : ℕ) (o : Ordering) → MatchOrdering o (x < y) (x ≡ y) (y < x) → x ≤ y → is_le o ≡ true
+numbers_upto x y Less l h = refl
+numbers_upto x y Equal l h = refl
+numbers_upto x y Greater l h = absurd (omega arith)
+
+module _ (s : List ℕ) (x y : ℕ) where
+  by_order : (o : Ordering) → order (name_in s x) (name_in s y) ≡ o → upto s x y ≡ is_le (ordering_then o (nat_cmp x y))
+  unfolding upto
+  by_order o h = ap (λ (p : Ordering). is_le (ordering_then p (nat_cmp x y))) h
 
   pub upto_is : upto s x y ≡ true → Upto s x y
   upto_is h = go (order (name_in s x) (name_in s y)) refl
     where
-      go : (o : Order) → order (name_in s x) (name_in s y) ≡ o → Upto s x y
-      go O.Less e = less e
-      go O.Same e = same (order_same (name_in s x) (name_in s y) e) (of_numbers (ltb x y) (ltb y x) refl refl (sym (by_order O.Same e) ∙ h))
-      go O.More e = let z : false ≡ true = sym (by_order O.More e) ∙ h in clash cc
-
-  of_same : order (name_in s x) (name_in s y) ≡ O.Same → x ≤ y → upto s x y ≡ true
-  of_same e l = by_order O.Same e ∙ go (ltb x y)
-    where
-      go : (p : Bool) → is_upto (cond p O.Less (cond (ltb y x) O.More O.Same)) ≡ true
-      go true = refl
-      go false = rw (le-ltb y x l)
+      go : (o : Ordering) → order (name_in s x) (name_in s y) ≡ o → Upto s x y
+      go Less e = less e
+      go Equal e = same (order_same (name_in s x) (name_in s y) e) (numbers_are x y (nat_cmp x y) (ranks x y) (sym (by_order Equal e) ∙ h))
+      go Greater e = let z : false ≡ true = sym (by_order Greater e) ∙ h in clash cc
 
   pub is_upto_law : Upto s x y → upto s x y ≡ true
-  is_upto_law (less h) = by_order O.Less h
-  is_upto_law (same e l) = of_same (ap (λ (n : List ℕ). order (name_in s x) n) (sym e) ∙ order_refl (name_in s x)) l
+  is_upto_law (less h) = by_order Less h
+  is_upto_law (same e l) =
+      by_order Equal (ap (λ (n : List ℕ). order (name_in s x) n) (sym e) ∙ order_refl (name_in s x)) ∙ numbers_upto x y (nat_cmp x y) (ranks x y) l
 
   pub upto_not : upto s x y ≡ false → Upto s y x
   upto_not h = go (order (name_in s x) (name_in s y)) refl
     where
-      go : (o : Order) → order (name_in s x) (name_in s y) ≡ o → Upto s y x
-      go O.Less e = let z : true ≡ false = sym (by_order O.Less e) ∙ h in clash cc
-      go O.Same e = at (ltb y x) refl
-        where
-          at : (q : Bool) → ltb y x ≡ q → Upto s y x
-          at true i = same (sym (order_same (name_in s x) (name_in s y) e)) (omega (arith, ltb-true y x i))
-          at false i = let z : true ≡ false = sym (of_same e (ltb-false y x i)) ∙ h in clash cc
-      go O.More e = less (order_flip (name_in s x) (name_in s y) e)
+      go : (o : Ordering) → order (name_in s x) (name_in s y) ≡ o → Upto s y x
+      go Less e = let z : true ≡ false = sym (by_order Less e) ∙ h in clash cc
+      go Equal e =
+          let l : y < x = numbers_are_not x y (nat_cmp x y) (ranks x y) (sym (by_order Equal e) ∙ h) in
+          same (sym (order_same (name_in s x) (name_in s y) e)) (omega arith)
+      go Greater e = less (order_flip (name_in s x) (name_in s y) e)
 
 -- of one name, what is up to the other begins no later
 pub upto_begins : (s : List ℕ) (x y : ℕ) → Upto s x y → name_in s x ≡ name_in s y → begin_in x ≤ begin_in y

@@ -5,13 +5,13 @@ use mathlib.Core.Bool.{true, false}
 use mathlib.Core.List.{[], ◌∷◌}
 use Rattle.entries.specs.Entry.{bytes_at}
 use Rattle.entries.proofs.PinnedEntries.{part, ab, b, ab₂, a, ayb, axb}
-use Rattle.compare.specs.declared.Order.TheVariants as O
+use Rattle.std.specs.declared.cmp.Ordering.TheVariants.{Less, Equal, Greater}
 use Rattle.compare.specs.Order.{order, order_in, ascends}
 
 -- by name, and what ends first is less; of one name what begins first; an entry and itself; names of one key by their bytes
 orders : order_in part a ab ∷ order_in part b ab ∷ order_in part ab ab₂ ∷ order_in part ab₂ ab ∷ order_in part b b ∷ order_in part ayb axb
     ∷ order (1 ∷ []) (1 ∷ 2 ∷ []) ∷ order (1 ∷ 2 ∷ []) (1 ∷ []) ∷ order [] [] ∷ []
-    ≡ O.Less ∷ O.Less ∷ O.Less ∷ O.More ∷ O.Same ∷ O.More ∷ O.Less ∷ O.More ∷ O.Same ∷ []
+    ≡ Less ∷ Less ∷ Less ∷ Greater ∷ Equal ∷ Greater ∷ Less ∷ Greater ∷ Equal ∷ []
 unfolding bytes_at order
 orders = refl
 

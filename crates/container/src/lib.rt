@@ -16,42 +16,32 @@ const WIDTH: u32 = 32;
 pub fn container_id(named: bool, uniform: bool) -> u8
     ensures { result ≡ container_id named uniform }
 {
-    if named {
-        if uniform {
-            return 3;
-        }
-        return 2;
+    match (named, uniform) {
+        (true, false) => 2,
+        (true, true) => 3,
+        (false, false) => 4,
+        (false, true) => 5,
     }
-    if uniform {
-        return 5;
-    }
-    4
 }
 
 // What stands above the ID in the type byte of a field or an item.
 pub fn type_flags(named: bool) -> u8
     ensures { result ≡ flags (type_mark named) }
 {
-    if named {
-        return format::flags_of(Mark::OfField);
-    }
-    format::flags_of(Mark::OfItem)
+    let mark = if named { Mark::OfField } else { Mark::OfItem };
+    format::flags_of(mark)
 }
 
 // What stands above the ID in the shared byte.
 pub fn shared_flags(named: bool) -> u8
     ensures { result ≡ flags (shared_mark named) }
 {
-    if named {
-        return format::flags_of(Mark::SharedByFields);
-    }
-    format::flags_of(Mark::SharedByItems)
-}
-
-fn wide(x: u32) -> usize
-    ensures { (result ≡ x) × (result ≤ 4294967295) }
-{
-    x as usize
+    let mark = if named {
+        Mark::SharedByFields
+    } else {
+        Mark::SharedByItems
+    };
+    format::flags_of(mark)
 }
 
 // The width of the count: an object has none.
@@ -59,31 +49,34 @@ fn count_width(named: bool, count: u32) -> usize
     ensures { (result ≡ length (count_part named count)) × (result ≤ 9) }
 {
     if named {
-        return 0;
+        0
+    } else {
+        encode::length(u64::from(count))
     }
-    encode::length(count as u64)
 }
 
 // The size: the count, the shared byte or the type bytes, and what else the fields have, which is `sum`.
 pub fn size_of(named: bool, shared: u8, count: u32, sum: u32) -> usize
     ensures { result ≡ size_by named shared count sum }
 {
-    let w = count_width(named, count);
-    if run::is_uniform(named, shared) {
-        return w + 1 + wide(sum);
-    }
-    w + wide(count) + wide(sum)
+    let types = if run::is_uniform(named, shared) {
+        1
+    } else {
+        count as usize
+    };
+    count_width(named, count) + types + sum as usize
 }
 
 // What the first pass leaves to the second: the size, the width of the count, and the shared ID, which is 0 if the container is not uniform.
 pub fn pack(named: bool, shared: u8, count: u32, size: u32) -> usize
     ensures { result ≡ packed named shared count size }
 {
-    let w = count_width(named, count);
-    if run::is_uniform(named, shared) {
-        return wide(size) * (SIZE as usize) + w * (WIDTH as usize) + shared as usize;
-    }
-    wide(size) * (SIZE as usize) + w * (WIDTH as usize)
+    let id = if run::is_uniform(named, shared) {
+        shared
+    } else {
+        0
+    };
+    size as usize * SIZE as usize + count_width(named, count) * WIDTH as usize + usize::from(id)
 }
 
 pub fn size_in(x: u32) -> u32
@@ -116,6 +109,7 @@ pub fn is_uniform_in(x: u32) -> bool
 pub fn store(work: &mut [u32], k: usize, x: u32)
     ensures { work.new ≡ set work.old k x }
 {
+    // Not `get_mut`: of a slice whose element it lent, a proof knows no more than the length.
     if k < work.len() {
         work[k] = x;
     }
@@ -125,19 +119,12 @@ pub fn store(work: &mut [u32], k: usize, x: u32)
 pub fn number_at(work: &[u32], k: usize) -> u32
     ensures { result ≡ get_or work.now k 0 }
 {
-    if k < work.len() {
-        return work[k];
-    }
-    0
+    work.get(k).copied().unwrap_or(0)
 }
 
 // All zero, as a refusal leaves the work numbers.
 pub fn clear(work: &mut [u32])
     ensures { work.new ≡ cleared work.old }
 {
-    let mut i = 0;
-    while i < work.len() {
-        work[i] = 0;
-        i += 1;
-    }
+    work.fill(0);
 }

@@ -1,3 +1,3 @@
 pub mod EndLaws
-pub mod SizeReturns
+pub mod MadeLaws
 pub mod OneAnswer

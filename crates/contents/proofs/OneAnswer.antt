@@ -1,15 +1,16 @@
 -- No second answer, for what is said of the contents of a container.
+use Rattle.std.specs.Prelude.{Result}
 use Prim.Native.Nat.{ℕ}
 use mathlib.Core.Bool.{Bool}
 use Rattle.number.proofs.OneAnswer.{One, one}
 use Rattle.format.specs.declared.Kind.{Kind}
 use Rattle.format.specs.declared.Form.{Form}
+use Rattle.format.specs.declared.Stop.{Stop}
 use Rattle.faults.specs.declared.Modes.{Modes}
 use Rattle.faults.specs.declared.Faults.{Faults}
-use Rattle.contents.specs.declared.Contents.{Contents}
 use Rattle.contents.specs.Contents.{closed, object_end, array_end, item_size, sized_items}
 
-pub close_one : (kind : Kind) (end : ℕ) (contents : Contents) → One (closed kind end contents)
+pub close_one : (kind : Kind) (end : ℕ) (contents : Result Faults Stop) → One (closed kind end contents)
 close_one kind end contents = one (closed kind end contents)
 
 module _ (form : Form) where

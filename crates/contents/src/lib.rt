@@ -7,50 +7,33 @@ ghost use Rattle.contents.specs.Contents.{closed, object_end, array_end, item_si
 use faults::{Faults, Modes};
 use format::{Flaw, Form, Kind, Stop};
 
-// A field: the first fault that stops; or its kind, its end, and the faults met so far.
+// A field that was checked: its kind, its end, and the faults met so far. (Of the contents of a container only the faults are told.)
 #[derive(Clone, Copy)]
-pub enum Field {
-    Stop(Stop),
-    Read {
-        kind: Kind,
-        end: usize,
-        faults: Faults,
-    },
-}
-
-// The contents of a container.
-#[derive(Clone, Copy)]
-pub enum Contents {
-    Stop(Stop),
-    Read(Faults),
+pub struct Field {
+    pub kind: Kind,
+    pub end: usize,
+    pub faults: Faults,
 }
 
 fn is_typed(form: Form) -> bool
     ensures { result ≡ is_typed form }
 {
-    match form {
-        Form::Top => true,
-        Form::Field => true,
-        Form::Item => true,
-        Form::SharedField(kind) => false,
-        Form::SharedItem(kind) => false,
-    }
+    matches!(form, Form::Top | Form::Field | Form::Item)
 }
 
-pub fn close(contents: Contents, kind: Kind, end: usize) -> Field
+// A container, by what its contents came to.
+pub fn close(contents: Result<Faults, Stop>, kind: Kind, end: usize) -> Result<Field, Stop>
     ensures { result ≡ closed kind end contents }
 {
-    match contents {
-        Contents::Stop(stop) => Field::Stop(stop),
-        Contents::Read(faults) => Field::Read {
-            kind: kind,
-            end: end,
-            faults: faults,
-        },
-    }
+    Ok(Field {
+        kind,
+        end,
+        faults: contents?,
+    })
 }
 
 // The fields of an object were read, and this is said of all of them.
+#[tactic(auto, unfolding(crate::specs::Contents::object_end))]
 pub fn end_object(form: Form, modes: Modes, faults: Faults, run: u8, twins: bool) -> Faults
     ensures { result ≡ object_end form modes faults run twins }
 {
@@ -63,6 +46,7 @@ pub fn end_object(form: Form, modes: Modes, faults: Faults, run: u8, twins: bool
     faults::note(modes, met, Flaw::Twin, twins)
 }
 
+#[tactic(auto, unfolding(crate::specs::Contents::array_end))]
 pub fn end_array(form: Form, modes: Modes, faults: Faults, run: u8) -> Faults
     ensures { result ≡ array_end form modes faults run }
 {
@@ -79,26 +63,29 @@ pub fn item_size(form: Form) -> usize
     ensures { result ≡ item_size form }
 {
     match form {
-        Form::Top => 0,
-        Form::Field => 0,
-        Form::Item => 0,
-        Form::SharedField(kind) => 0,
         Form::SharedItem(kind) => head::fixed_size(kind),
+        _ => 0,
     }
 }
 
 // Items of one size in a part of this length: they need not be looked at.
-pub fn check_sizes(length: usize, count: u64, size: usize, left: usize, faults: Faults) -> Contents
+pub fn check_sizes(
+    length: usize,
+    count: u64,
+    size: usize,
+    left: usize,
+    faults: Faults,
+) -> Result<Faults, Stop>
     ensures { result ≡ sized_items count size left faults length }
 {
     if (left == 0) & (0 < count) {
-        return Contents::Stop(Stop::TooDeep);
+        return Err(Stop::TooDeep);
     }
     if size == 0 {
-        return Contents::Stop(Stop::Early);
+        return Err(Stop::Early);
     }
     if (length % size == 0) & ((length / size) as u64 == count) {
-        return Contents::Read(faults);
+        return Ok(faults);
     }
-    Contents::Stop(Stop::Early)
+    Err(Stop::Early)
 }

@@ -1,18 +1,19 @@
 -- What the owner demands, sentence by sentence, each as a theorem about the definitions of documents 01 and 02. The proofs are citations: what stands
 -- behind them is in the proofs/ of the crates that the `use` lines below name. What the calls have to do with it, their contracts say: each is one
 -- equation with a definition.
+use Rattle.std.specs.Prelude.{Ok, Err, Option, None, Some}
 use Prim.Native.Nat.{ℕ, suc, ◌+◌, ◌-◌, ◌%◌, ◌^◌, ◌≤◌, ◌<◌}
 use mathlib.Core.Path.{◌≡◌}
 use mathlib.Core.Bool.{Bool, true, false}
 use mathlib.Core.Logic.{◌↔◌}
-use mathlib.Core.Option.{Option, some}
+use mathlib.Core.Option as math
+use mathlib.Core.Option.{some}
 use mathlib.Core.List.{List, [], ◌++◌}
 use lib.ListN.{length, take, drop}
 use lib.Seq.{slice}
 use lib.Ieee.{binary32, binary64, of_bits}
 use Rattle.number.specs.BigEndian.{All, Bytes}
-use Rattle.number.specs.VarUInt.{var_uint}
-use Rattle.number.specs.declared.VarUInt.TheVariants.{Cut, Whole}
+use Rattle.number.specs.VarUInt.{var_uint, whole, cut}
 use Rattle.number.proofs.MissingLaws as missing
 use Rattle.number.proofs.PinnedVarUInts as numbers-pinned
 use Rattle.float.specs.Width.{is_nan32, is_nan64, widen}
@@ -21,16 +22,8 @@ use Rattle.format.specs.declared.Form.TheVariants as Fo
 use Rattle.format.specs.declared.Stop.{Stop}
 use Rattle.format.specs.declared.Stop.TheVariants.{TooLong}
 use Rattle.places.specs.declared.Place.{Place}
-use Rattle.places.specs.declared.After.{After}
-use Rattle.places.specs.declared.After.TheVariants.{Start}
-use Rattle.places.specs.declared.Checked.TheVariants as C
-use Rattle.places.specs.declared.Part.TheVariants as P
-use Rattle.places.specs.declared.Step.TheVariants as S
-use Rattle.places.specs.declared.Found.TheVariants as F
-use Rattle.places.specs.declared.Top.TheVariants as T
 use Rattle.frames.specs.declared.Refusal.{Refusal}
 use Rattle.frames.specs.declared.Refusal.TheVariants.{ListEnds}
-use Rattle.frames.specs.declared.Written.TheVariants.{Done, Refused}
 use Rattle.format.specs.Limits.{depth_limit, length_limit}
 use Rattle.format.specs.declared.Flaw.{Flaw}
 use Rattle.format.specs.declared.Flaw.TheVariants.{Long}
@@ -41,12 +34,13 @@ use Rattle.format.specs.Reader.{Standing, Named, Layout, read, tree_of}
 use Rattle.format.specs.Mask.{stop_value, flaws, has, sum_of, padding_of, mask, bounds_only, strict}
 use Rattle.places.specs.Places.{checked, top, step, name_view, part, view, lookup, look_from}
 use Rattle.frames.specs.WriteList.{framed, read_list, read_frames, until_close}
-use Rattle.frames.specs.Writer.{refusal_number, zeros, written}
+use Rattle.frames.specs.Writer.{refusal_number, zeros, written, refused_at}
 use Rattle.frames.specs.Program.{program}
 use Rattle.places.specs.Show.{Shown, ShownPayload}
 use Rattle.places.specs.Stepping.{field_at, place_at, Agree, Event, steps_from, stepping, events, IsFirst}
 use Rattle.places.specs.Siblings.{Inside}
 use Rattle.places.specs.Views.{Seen}
+use Rattle.places.specs.Made.{step_met}
 use Rattle.format.proofs.Spelling as spelling
 use Rattle.places.proofs.Walk as walk
 use Rattle.places.proofs.Siblings as siblings
@@ -102,7 +96,7 @@ use Rattle.frames.proofs.Refusals as frames
 -- What these calls share, crate by crate from the bottom up:
 --   number::read, read32, read64, minus_plus_one, ticks; encode::length, put; text::is_text, are_equal;
 --   float::float32_holds, is_nan32, is_nan64, widen, narrow, of_integer; format::known_of, flags_of, kind_at, id_of, is_bare, stop_value, class_of;
---   faults::no_faults, note, has, sum_of; run::join, add, is_uniform; front::span_of, text_of, front_of, name_of; frames::refusal_number;
+--   faults::no_faults, note, has, sum_of; run::join, add, is_uniform; front::span_of, text_of, front_of, name_of; frames::refusal_number; Refusal::at;
 --   hexadecimal::character_of, nothing, feed;
 --   container::container_id, type_flags, shared_flags, size_of, pack, size_in, width_in, shared_in, is_uniform_in, store, number_at, clear;
 --   leaves::fixed, positive, negative, float64, text_leaf, custom_by_id, custom_by_name; printing::put_refused, put_encoding;
@@ -112,7 +106,7 @@ use Rattle.frames.proofs.Refusals as frames
 --   passing::name_at; select::name_at, first_twin; notes::held, add, first_twin; used::place_of; naming::note, ended;
 --   frame::kind_of, name_of, name_at, name_end, front_at, leaf_of, leaf_at, leaf_end, bits_of; open::open_place; settle::decided; measure::measure;
 --   output::copy, bits_at, final_id;
---   replies::number_of, varuint, double, signed, unsigned, ticks;
+--   replies::number_of, place_code, told, varuint, number, signed, ticks;
 --   contents::close, end_object, end_array, item_size, check_sizes; checks::check; named::check, check_with;
 --   place_replies::after_of, checked, top, step, part, found;
 --   basic_calls::varuint, is_text, are_equal, float32_holds; place_calls::check, top, step, view, lookup; value_calls::double, signed, unsigned, ticks;
@@ -122,7 +116,7 @@ use Rattle.frames.proofs.Refusals as frames
 -- crates/replies/specs/Reply.antt).
 
 -- 1. "a refused write gives its number and place, leaves the output untouched and zeroes the work numbers."
-pub refused_leaves : (list output work : List ℕ) (r : Refusal) (p : ℕ) → (written list output work).answer ≡ Refused r p
+pub refused_leaves : (list output work : List ℕ) (r : Refusal) (p : ℕ) → (written list output work).answer ≡ refused_at r p
     → ((written list output work).output ≡ output) × ((written list output work).work ≡ zeros (length work))
 refused_leaves = answers.refused_leaves
 
@@ -132,12 +126,12 @@ pub refused_call_leaves : (list output work answer : List ℕ) → ((sent list o
 refused_call_leaves = calls.refused_leaves
 
 -- 1. its place: the list's length for 1; 0 for 9, 10 and 11; otherwise the first byte of a frame, and no frame before it is faulty
-pub refusal_placed : (list output work : List ℕ) (r : Refusal) (p : ℕ) → (written list output work).answer ≡ Refused r p → Placed r p list output work
+pub refusal_placed : (list output work : List ℕ) (r : Refusal) (p : ℕ) → (written list output work).answer ≡ refused_at r p → Placed r p list output work
 refusal_placed = refusals.refusal_placed
 
 -- 1. and it is the first faulty frame: where frames are not faulty so far, none of them is refused, whatever follows
-pub refused_no_earlier : (output work list more : List ℕ) → (written list output work).answer ≡ Refused ListEnds (length list)
-    → (r : Refusal) (p : ℕ) → (written (list ++ more) output work).answer ≡ Refused r p → refusal_number r ≤ 8 → length list ≤ p
+pub refused_no_earlier : (output work list more : List ℕ) → (written list output work).answer ≡ refused_at ListEnds (length list)
+    → (r : Refusal) (p : ℕ) → (written (list ++ more) output work).answer ≡ refused_at r p → refusal_number r ≤ 8 → length list ≤ p
 refused_no_earlier = faulty.refused_no_earlier
 
 -- ---- 2. "For every input and mode set the mask is the one that document 01 derives."
@@ -214,19 +208,19 @@ every_field_reached = walk.every_field_reached
 
 -- 2. its view is a part of the payload, from behind its size to the field's end: a leaf's value, a container's count and shared byte and contents. The name
 -- that a step meets is a part of it too. A refused view is empty
-pub every_view : (payload : List ℕ) → mask bounds_only payload ≡ 0 → (t : Place) → top payload ≡ T.At t
-    → (path name : List ℕ) (c : Place) → place_at path payload ([], t) ≡ some (name, c) → Seen path payload c
+pub every_view : (payload : List ℕ) → mask bounds_only payload ≡ 0 → (t : Place) → top payload ≡ Ok t
+    → (path name : List ℕ) (c : Place) → place_at path payload ([], t) ≡ Some (name, c) → Seen path payload c
 every_view = views.every_view
 
-pub refused_view : (payload : List ℕ) (place : Place) (fault : Stop) → checked payload place ≡ C.Fault fault
-    → (part payload place ≡ P.Fault fault) × (view payload place ≡ [])
+pub refused_view : (payload : List ℕ) (place : Place) (fault : Stop) → checked payload place ≡ Err fault
+    → (part payload place ≡ Err fault) × (view payload place ≡ [])
 refused_view = views.refused_view
 
-pub name_viewed : (payload : List ℕ) (c : Place) (last : After) (q : Place) (a : ℕ) → step payload c last ≡ S.Field q a
+pub name_viewed : (payload : List ℕ) (c : Place) (last : Option Place) (q : Place) (a : ℕ) → step payload c last ≡ step_met q a
     → name_view payload c last ≡ slice a q.start payload
 name_viewed = views.name_viewed
 
-pub refused_name_view : (payload : List ℕ) (c : Place) (last : After) → ((q : Place) (a : ℕ) → step payload c last ≡ S.Field q a → ⊥)
+pub refused_name_view : (payload : List ℕ) (c : Place) (last : Option Place) → ((q : Place) (a : ℕ) → step payload c last ≡ step_met q a → ⊥)
     → name_view payload c last ≡ []
 refused_name_view = views.refused_name_view
 
@@ -240,7 +234,7 @@ numbers_apart = numbers.numbers_apart
 -- 2. "From every write list that is not refused the writer makes the encoding of the described tree, and strict validation passes it."
 -- `Wrote` says: the tree that the list describes, that it is within the limits, that the output begins with its encoding and is untouched behind it, that the
 -- work numbers are the containers' sizes in order of opening and zero behind them, and that the encoding has strict mask 0 and is read as that tree
-pub written_is_encoding : (list output work : List ℕ) (n : ℕ) → Bytes list → (written list output work).answer ≡ Done n
+pub written_is_encoding : (list output work : List ℕ) (n : ℕ) → Bytes list → (written list output work).answer ≡ Ok n
     → Wrote list output work n (written list output work)
 written_is_encoding = answers.written_is_encoding
 
@@ -291,22 +285,23 @@ walk_meets_each_once payload h = let i = walk.every_field_shown payload h in (i,
 -- 3. "wholly inside its container, no two siblings overlapping.", at every place that steps reach: `Inside` says that steps there meet one place for each
 -- field, that each field lies in the contents and its payload in the container, that no two overlap, neither whole nor as their places say, and that nothing
 -- between them is left out
-pub stepping_inside : (payload : List ℕ) → mask bounds_only payload ≡ 0 → (t : Place) → top payload ≡ T.At t
-    → (path name : List ℕ) (c : Place) → place_at path payload ([], t) ≡ some (name, c) → Inside path payload c
+pub stepping_inside : (payload : List ℕ) → mask bounds_only payload ≡ 0 → (t : Place) → top payload ≡ Ok t
+    → (path name : List ℕ) (c : Place) → place_at path payload ([], t) ≡ Some (name, c) → Inside path payload c
 stepping_inside = siblings.stepping_inside
 
 -- ---- and of any payload, at fault or not, and any place, forged or not: a field that a step gives lies in its container, behind the last one, one deeper,
 -- and its place passes the check
-pub any_step : (payload : List ℕ) (c : Place) (last : After) (q : Place) (name : ℕ) → step payload c last ≡ S.Field q name → Stepped payload c last q name
+pub any_step : (payload : List ℕ) (c : Place) (last : Option Place) (q : Place) (name : ℕ)
+    → step payload c last ≡ step_met q name → Stepped payload c last q name
 any_step = steps.any_step
 
 -- ---- lookup, of every object that is shown, and any name: it finds the first field of that name, and "not there" exactly if there is none
 module _ (d : ℕ) (payload : List ℕ) (c : Place) (k : Kind) (xs : List (Named (Standing (Layout d))))
     (i : Shown (suc d) payload c (k, object xs)) (name : List ℕ) where
-  pub lookup_finds_first : (q : Place) → (lookup payload c name ≡ F.At q) ↔ IsFirst name q i.node.fields.places xs
+  pub lookup_finds_first : (q : Place) → (lookup payload c name ≡ Ok (Some q)) ↔ IsFirst name q i.node.fields.places xs
   lookup_finds_first = walk.lookup_finds_first d payload c k xs i name
 
-  pub not_there_exactly : (lookup payload c name ≡ F.NotThere) ↔ All (λ x. x.0 ≡ name → ⊥) xs
+  pub not_there_exactly : (lookup payload c name ≡ Ok None) ↔ All (λ x. x.0 ≡ name → ⊥) xs
   not_there_exactly = walk.not_there_exactly d payload c k xs i name
 
 -- ---- the numbers that bound a recursion in the definitions are large enough: more of them change nothing
@@ -318,51 +313,51 @@ pub shared_fields_enough : (d : ℕ) (k : Kind) (n : ℕ) (s : List ℕ) → len
 shared_fields_enough = bounds.shared_fields_enough
 
 pub look_enough : (payload : List ℕ) (c : Place) (name : List ℕ) (n : ℕ) → c.end < n
-    → look_from n payload c name Start ≡ look_from (suc c.end) payload c name Start
+    → look_from n payload c name None ≡ look_from (suc c.end) payload c name None
 look_enough = bounds.look_enough
 
 pub steps_enough : (payload : List ℕ) (c : Place) (below : Place → List Event) (n : ℕ) → c.end < n
-    → steps_from below n payload c Start ≡ steps_from below (suc c.end) payload c Start
+    → steps_from below n payload c None ≡ steps_from below (suc c.end) payload c None
 steps_enough = bounds.steps_from_enough
 
-pub frames_enough : (d : ℕ) (names : List (List ℕ) → Option (List (List ℕ))) (n : ℕ) (used : List (List ℕ)) (s : List ℕ) → length s ≤ n
+pub frames_enough : (d : ℕ) (names : List (List ℕ) → math.Option (List (List ℕ))) (n : ℕ) (used : List (List ℕ)) (s : List ℕ) → length s ≤ n
     → until_close (λ u. read_frames d (names u)) n used s ≡ until_close (λ u. read_frames d (names u)) (length s) used s
 frames_enough = frames.frames_enough
 
 -- ---- document 02, M-107: "for a cut value, how many of the bytes its first byte calls for are still missing": of a value that is cut in two, as many as were
 -- cut off
 pub cut_off : (held more : List ℕ) (v : ℕ) (minimal : Bool) → 1 ≤ length held → 1 ≤ length more
-    → var_uint (held ++ more) ≡ Whole v (length held + length more) minimal → var_uint held ≡ Cut (length more)
+    → var_uint (held ++ more) ≡ whole v (length held + length more) minimal → var_uint held ≡ cut (length more)
 cut_off = missing.cut_off
 
 -- "(one for an empty rest)"
-pub empty_rest : var_uint [] ≡ Cut 1
+pub empty_rest : var_uint [] ≡ cut 1
 empty_rest = numbers-pinned.nothing_there
 
 -- at least one is missing, and a value has 9 bytes at most
-pub missing_range : (held : List ℕ) (missing : ℕ) → var_uint held ≡ Cut missing → (1 ≤ missing) × (length held + missing ≤ 9)
+pub missing_range : (held : List ℕ) (missing : ℕ) → var_uint held ≡ cut missing → (1 ≤ missing) × (length held + missing ≤ 9)
 missing_range = missing.missing_range
 
 -- "and for a whole value also whether it is minimal.": exactly if no shorter form holds the value
-pub minimal_exactly : (s : List ℕ) (v n : ℕ) (minimal : Bool) → Bytes s → var_uint s ≡ Whole v n minimal → (minimal ≡ true) ↔ minimal_form v (take n s)
+pub minimal_exactly : (s : List ℕ) (v n : ℕ) (minimal : Bool) → Bytes s → var_uint s ≡ whole v n minimal → (minimal ≡ true) ↔ minimal_form v (take n s)
 minimal_exactly = spelled-numbers.minimal_exactly
 
 -- "Our receiver must know how many bytes to wait for.": as many as are missing, whichever they are, make it whole once a first byte is held
-pub missing_joined : (held more : List ℕ) (missing : ℕ) → var_uint held ≡ Cut missing → 1 ≤ length held → missing ≤ length more
-    → (v : ℕ) × (minimal : Bool) × (var_uint (held ++ more) ≡ Whole v (length held + missing) minimal)
+pub missing_joined : (held more : List ℕ) (missing : ℕ) → var_uint held ≡ cut missing → 1 ≤ length held → missing ≤ length more
+    → (v : ℕ) × (minimal : Bool) × (var_uint (held ++ more) ≡ whole v (length held + missing) minimal)
 missing_joined = missing.missing_joined
 
 -- fewer do not
-pub fewer_joined : (held more : List ℕ) (missing : ℕ) → var_uint held ≡ Cut missing → length more < missing
-    → var_uint (held ++ more) ≡ Cut (missing - length more)
+pub fewer_joined : (held more : List ℕ) (missing : ℕ) → var_uint held ≡ cut missing → length more < missing
+    → var_uint (held ++ more) ≡ cut (missing - length more)
 fewer_joined = missing.fewer_joined
 
 -- it never waits past the end of the value, whatever comes
-pub never_too_many : (held more : List ℕ) (missing v n : ℕ) (minimal : Bool) → var_uint held ≡ Cut missing → var_uint (held ++ more) ≡ Whole v n minimal
+pub never_too_many : (held more : List ℕ) (missing v n : ℕ) (minimal : Bool) → var_uint held ≡ cut missing → var_uint (held ++ more) ≡ whole v n minimal
     → length held + missing ≤ n
 never_too_many = missing.never_too_many
 
 -- and it is told to wait again only if it held no byte before
-pub told_again : (held more : List ℕ) (missing again : ℕ) → var_uint held ≡ Cut missing → missing ≤ length more → var_uint (held ++ more) ≡ Cut again
+pub told_again : (held more : List ℕ) (missing again : ℕ) → var_uint held ≡ cut missing → missing ≤ length more → var_uint (held ++ more) ≡ cut again
     → held ≡ []
 told_again = missing.told_again

@@ -1,5 +1,5 @@
 -- The digits of names: the key and the bytes. Names that are alike up to a digit, and what a digit tells of them.
-use Prim.Native.Nat.{ℕ, zero, suc, ◌+◌, ◌-◌, ◌/◌, ◌%◌, ◌≤◌, ◌<◌}
+use Prim.Native.Nat.{ℕ, zero, suc, ◌+◌, ◌-◌, ◌%◌, ◌≤◌, ◌<◌}
 use native.Mathlib.Omega.{arith}
 use native.Mathlib.Numerals.{add-one}
 use mathlib.Core.Path.{◌≡◌, refl, sym, ap, ◌∙◌}
@@ -14,9 +14,6 @@ use Rattle.divide.specs.Passes.{digit_in, Reach, Alike}
 use Rattle.tables.proofs.FitReturns.{in_at}
 
 -- ---- one digit
-
-pub digit_key : (s : List ℕ) (x at : ℕ) → at ≡ 0 → x / 16777216 ≡ digit_in s at x
-digit_key s x at e = rw e
 
 module _ (s : List ℕ) (x : ℕ) (l : begin_in x + length_in x ≤ length s) where
   pub digit_byte : (at p : ℕ) → suc p ≡ at → at ≤ length_in x → (b : ℕ) → b ≡ x % 16777216 → (r : ℕ) → r ≡ get_or s (b + p) 0 → r ≡ digit_in s at x
@@ -90,3 +87,12 @@ reach_perm s j t u p w = record { fit = λ x i. w.fit x (perm_in p i); reach = �
 pub reach_at : (s : List ℕ) (j : ℕ) (t : List ℕ) → Reach s j t → (i : ℕ) → i < length t
     → (begin_in (get_or t i 0) + length_in (get_or t i 0) ≤ length s) × (j ≤ length_in (get_or t i 0))
 reach_at s j t w i l = (w.fit (get_or t i 0) (in_at t i l), w.reach (get_or t i 0) (in_at t i l))
+
+-- the entries behind the first
+pub behind_first : (t : List ℕ) (i : ℕ) → get_or (take (length t - 1) (drop 1 t)) i 0 ≡ get_or t (i + 1) 0
+behind_first [] i = refl
+behind_first (x ∷ u) i = rw (take_all (length (x ∷ u) - 1) u (omega arith), add-one i)
+
+pub behind_within : (t : List ℕ) (i : ℕ) → i < length (take (length t - 1) (drop 1 t)) → i + 1 < length t
+behind_within [] i l = absurd (omega arith)
+behind_within (x ∷ u) i l = omega (arith, rw (take_all (length (x ∷ u) - 1) u (omega arith)) at l)

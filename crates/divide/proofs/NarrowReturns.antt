@@ -1,9 +1,12 @@
 -- One turn: few entries, or entries of one name, are done with; entries that have one digit in common go on with the next; others are divided. And turn after
 -- turn.
-use Prim.Native.Nat.{ℕ, ◌+◌, ◌-◌, ◌/◌, ◌≤◌, ◌<◌}
+use Prim.Native.Nat.{ℕ, min, ◌+◌, ◌-◌, ◌/◌, ◌≤◌, ◌<◌}
 use native.Mathlib.Omega.{arith}
 use mathlib.Core.Path.{◌≡◌, refl, sym, ap, ◌∙◌}
+use mathlib.Core.Bool.{Bool, true, false, cond}
 use mathlib.Core.List.{List, [], ◌++◌, append-nil}
+use lib.Dec.{ltb}
+use borrow.Author.Tests.{ltb-true, ltb-false}
 use lib.ListN.{length, take, drop, get_or, length-drop, length-append, take-append-drop, drop_of_length-le}
 use lib.Seq.{take_all, take-length, take_at, take-append-le, length-take-le, length_front}
 use Rattle.entries.specs.Entry.{length_in}
@@ -19,6 +22,13 @@ use Rattle.divide.proofs.TableLaws.{none_in, in_take, in_drop}
 use Rattle.divide.proofs.ApartLaws.{least_apart, lesser_swap, lesser_assoc, lesser_none}
 use Rattle.divide.proofs.DepthLaws.{bits, bits_upto, bits_half}
 use Rattle.divide.proofs.DigitLaws.{alike_fewer, alike_reach, alike_end, alike_on, other_name}
+
+least_of_two : (a b : ℕ) → min b a ≡ lesser a b
+least_of_two a b = go (ltb a b) refl
+  where
+    go : (o : Bool) → ltb a b ≡ o → min b a ≡ cond o a b
+    go true e = omega (arith, ltb-true a b e)
+    go false e = omega (arith, ltb-false a b e)
 
 alike_none : (s : List ℕ) (j : ℕ) → Alike s j []
 alike_none s j = record { fit = λ x i. absurd (none_in x i); reach = λ x i. absurd (none_in x i); alike = λ x e i k. absurd (none_in x i) }
@@ -185,8 +195,8 @@ module _ (s t₀ t : List ℕ) (best count from : ℕ) (w : Narrowing s t₀ t b
     pub turn_less : k + (16777217 - j) < count + (16777217 - from)
     turn_less = omega (arith, v.less, turn_length)
 
-    pub turns_on : (q : ℕ) → q ≡ lesser best b → Narrowing s t₀ (y ++ drop count t) q k j
-    turns_on q e = record {
+    pub turns_on : (q : ℕ) → q ≡ min b best → Narrowing s t₀ (y ++ drop count t) q k j
+    turns_on q d = let e : q ≡ lesser best b = d ∙ least_of_two best b in record {
       length_kept = turn_kept ∙ w.length_kept;
       few = omega (arith, turn_kept, v.few, turn_length, w.few);
       bound = omega (arith, e, lesser_left best b, w.bound);

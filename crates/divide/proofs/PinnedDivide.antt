@@ -2,11 +2,11 @@
 use Prim.Native.Nat.{ℕ, ◌+◌, ◌*◌}
 use mathlib.Core.Path.{◌≡◌, refl}
 use mathlib.Core.List.{List, [], ◌∷◌}
+use Rattle.std.proofs.Common.{Some, None}
 use Rattle.text.specs.Equal.{equal}
 use Rattle.entries.specs.Entry.{bytes_at}
 use Rattle.entries.specs.Least.{is_first, is_twin, least_of}
 use Rattle.tables.specs.Fit.{all_fit}
-use Rattle.divide.specs.declared.Divided.TheVariants.{Unfit, Done}
 use Rattle.divide.specs.Divided.{afterwards, divided}
 
 -- "ab", "b", "ab", "a", "ab", and "qb", whose key is that of "ab"
@@ -47,18 +47,18 @@ done : divided part (b ∷ ab ∷ []) 0
     ∷ divided part (b ∷ ab ∷ b ∷ []) 3
     ∷ divided part (ab ∷ b ∷ ab₂ ∷ []) 2
     ∷ []
-    ≡ afterwards (Done 16777216) (b ∷ ab ∷ [])
-    ∷ afterwards (Done 16777216) (0 ∷ 0 ∷ 0 ∷ 7 ∷ [])
-    ∷ afterwards (Done 3) (0 ∷ 0 ∷ 0 ∷ 0 ∷ 9 ∷ [])
-    ∷ afterwards (Done 3) (0 ∷ 0 ∷ 0 ∷ [])
-    ∷ afterwards (Done 16777216) (0 ∷ 0 ∷ 0 ∷ [])
-    ∷ afterwards (Done 16777216) (0 ∷ 0 ∷ ab₂ ∷ [])
+    ≡ afterwards (Some 16777216) (b ∷ ab ∷ [])
+    ∷ afterwards (Some 16777216) (0 ∷ 0 ∷ 0 ∷ 7 ∷ [])
+    ∷ afterwards (Some 3) (0 ∷ 0 ∷ 0 ∷ 0 ∷ 9 ∷ [])
+    ∷ afterwards (Some 3) (0 ∷ 0 ∷ 0 ∷ [])
+    ∷ afterwards (Some 16777216) (0 ∷ 0 ∷ 0 ∷ [])
+    ∷ afterwards (Some 16777216) (0 ∷ 0 ∷ ab₂ ∷ [])
     ∷ []
 unfolding bytes_at equal is_first is_twin least_of all_fit divided
 done = refl
 
 -- one more than there are; one that does not fit; and one that does not fit behind those asked for
 unfit : divided part (b ∷ ab ∷ []) 3 ∷ divided part (b ∷ past ∷ ab ∷ ab₂ ∷ []) 4 ∷ divided part (b ∷ ab ∷ past ∷ []) 2 ∷ []
-    ≡ afterwards Unfit (b ∷ ab ∷ []) ∷ afterwards Unfit (b ∷ past ∷ ab ∷ ab₂ ∷ []) ∷ afterwards (Done 16777216) (0 ∷ 0 ∷ past ∷ []) ∷ []
+    ≡ afterwards None (b ∷ ab ∷ []) ∷ afterwards None (b ∷ past ∷ ab ∷ ab₂ ∷ []) ∷ afterwards (Some 16777216) (0 ∷ 0 ∷ past ∷ []) ∷ []
 unfolding bytes_at equal is_first is_twin least_of all_fit divided
 unfit = refl

@@ -1,13 +1,14 @@
 -- Entries that go to the front change places with those that do not.
-use Prim.Native.Nat.{ℕ, ◌+◌, ◌-◌, ◌≤◌, ◌<◌}
+use Prim.Native.Nat.{ℕ, ◌+◌, ◌≤◌, ◌<◌}
 use native.Mathlib.Omega.{arith}
 use mathlib.Core.Path.{◌≡◌, refl, ap, ◌∙◌}
-use mathlib.Core.Bool.{Bool, true, false, cond}
+use mathlib.Core.Bool.{Bool, true, false, cond, beq}
 use mathlib.Core.List.{List}
 use lib.ListN.{length, get_or, set, length-set}
 use lib.Seq.{get_or-set_same, get_or-set_other}
-use lib.Dec.{eqb}
-use borrow.Author.Tests.{eqb-true, eqb-false, le-leb, lt-leb, lt-ltb, le-ltb}
+use lib.Dec.{eqb, leb, ltb}
+use Rattle.std.specs.Int.{from_bool}
+use borrow.Author.Tests.{eqb-true, eqb-false, lt-ltb, le-ltb, leb-true, leb-false}
 use Rattle.entries.specs.Entry.{begin_in, length_in}
 use Rattle.entries.specs.Among.{Perm, then, In}
 use Rattle.entries.proofs.Perms.{perm_same, perm_in, perm_length}
@@ -17,22 +18,18 @@ use Rattle.divide.proofs.TableLaws.{front_all, rest_all, swapped}
 
 -- ---- what goes to the front
 
-module _ (mid d : ℕ) (lows : Bool) where
-  pub counted_low : lows ≡ true → d ≤ mid → 1 ≡ count_front lows mid d
-  unfolding count_front
-  counted_low e l = rw (e, le-leb d mid l)
-
-  pub counted_not_low : lows ≡ true → mid < d → 0 ≡ count_front lows mid d
-  unfolding count_front
-  counted_not_low e l = rw (e, lt-leb d mid l)
-
-  pub counted_not_high : lows ≡ false → d ≤ mid → 0 ≡ count_front lows mid d
-  unfolding count_front
-  counted_not_high e l = rw (e, le-ltb mid d l)
-
-  pub counted_high : lows ≡ false → mid < d → 1 ≡ count_front lows mid d
-  unfolding count_front
-  counted_high e l = rw (e, lt-ltb mid d l)
+pub counted_is : (mid d : ℕ) (lows : Bool) → from_bool (beq (leb d mid) lows) ≡ count_front lows mid d
+unfolding count_front
+counted_is mid d true = go (leb d mid)
+  where
+    go : (o : Bool) → from_bool (beq o true) ≡ cond o 1 0
+    go true = refl
+    go false = refl
+counted_is mid d false = go (leb d mid) refl
+  where
+    go : (o : Bool) → leb d mid ≡ o → from_bool (beq o false) ≡ cond (ltb mid d) 1 0
+    go true e = rw (le-ltb mid d (leb-true d mid e))
+    go false e = rw (lt-ltb mid d (leb-false d mid e))
 
 pub counted_few : (lows : Bool) (mid d q : ℕ) → q ≡ count_front lows mid d → q ≤ 1
 unfolding count_front
@@ -93,10 +90,6 @@ module _ (s : List ℕ) (j mid : ℕ) (lows : Bool) (t₀ t : List ℕ) (k i : �
   split_asks l r =
       let h : In (get_or t i 0) t₀ = perm_in w.perm (in_at t i l) in
       (r.fit (get_or t i 0) h, r.reach (get_or t i 0) h)
-
-  -- and the first that is not in front is there
-  pub split_within : i < length t → (v : ℕ) → k < length (set t i v)
-  split_within l v = omega (arith, length-set t i v, w.few)
 
   pub split_ends : length t₀ ≤ i → Splits s j mid lows t₀ t k
   split_ends l = record {

@@ -6,12 +6,12 @@ use native.Mathlib.Nat.{div-div-eq-div-mul, mul_comm, pow-succ'}
 use mathlib.Core.Path.{◌≡◌, refl, sym, ap, ◌∙◌}
 use mathlib.Core.List.{List, [], ◌∷◌}
 use lib.ListN.{length, set}
-use lib.Seq.{sets, set_comm, length-sets}
+use lib.Seq.{sets, set_comm}
 use borrow.Author.Tests.{le-leb, lt-leb}
+use Rattle.std.proofs.Common.{Some, None}
 use Rattle.number.specs.BigEndian.{to_bytes}
 use Rattle.number.specs.VarUInt.{reached, bounds, lead, encoded}
 use Rattle.encode.specs.Put.{afterwards, put_at}
-use Rattle.encode.specs.declared.Stored.TheVariants.{Done, NoRoom}
 use Rattle.number.proofs.VarUIntLaws.{measured, encoded_first, encoded_at}
 
 -- an element before a run of stores
@@ -20,50 +20,33 @@ set_sets [] l i j a h = refl
 set_sets (x ∷ vs) l i j a h =
     set_sets vs (set l j x) i (suc j) a (omega arith) ∙ ap (λ m. sets m (suc j) vs) (set_comm l j i x a (λ e. omega arith))
 
--- the bytes behind `at + i` are put, and the rest of v is left
+-- all but the first i of the n bytes behind `at` are put, and the rest of v is left
 pub record Scattered (v at n : ℕ) (start out : List ℕ) (rest i : ℕ) : Type 0 where
-  pub most : i ≤ n
   pub rest_is : rest ≡ v / 256 ^ (n - i)
-  pub out_is : out ≡ sets start (at + i + 1) (to_bytes (n - i) v)
+  pub out_is : out ≡ sets start (at + 1 + i) (to_bytes (n - i) v)
 
-pub scattered_start : (v at n : ℕ) (out : List ℕ) → Scattered v at n out out v n
-scattered_start v at n out =
-    let z : n - n ≡ 0 = omega arith in
-    record { most = omega arith; rest_is = rw z (omega arith); out_is = rw z refl }
-
-pub scattered_again : (v at n : ℕ) (start out : List ℕ) (rest i : ℕ) → Scattered v at n start out rest i → 0 < i
-    → Scattered v at n start (set out (at + i) (rest % 256)) (rest / 256) (i - 1)
-scattered_again v at n start out rest i s h =
-    let k : n - (i - 1) ≡ suc (n - i) = omega (arith, s.most) in
-    let p : at + (i - 1) + 1 ≡ at + i = omega arith in
+pub scattered_again : (v at n : ℕ) (start out : List ℕ) (rest i : ℕ) → Scattered v at n start out rest i → i ≤ n → 0 < i
+    → Scattered v at n start (set out (at + 1 + (i - 1)) (rest % 256)) (rest / 256) (i - 1)
+scattered_again v at n start out rest i s h l =
+    let k : n - (i - 1) ≡ suc (n - i) = omega arith in
+    let p : at + 1 + i ≡ suc (at + 1 + (i - 1)) = omega arith in
     let q : v / 256 ^ (n - i) / 256 ≡ v / 256 ^ suc (n - i) =
     div-div-eq-div-mul v (256 ^ (n - i)) 256 ∙ ap (λ x. v / x) (mul_comm (256 ^ (n - i)) 256 ∙ sym (pow-succ' 256 (n - i))) in
     record {
-      most = omega (arith, s.most);
       rest_is = rw (k, s.rest_is) q;
-      out_is = rw (k, p, s.out_is, s.rest_is, add-one (at + i))
-          (set_sets (to_bytes (n - i) v) start (at + i) (suc (at + i)) (v / 256 ^ (n - i) % 256) (omega arith));
+      out_is = rw (k, s.out_is, s.rest_is, p)
+          (set_sets (to_bytes (n - i) v) start (at + 1 + (i - 1)) (suc (at + 1 + (i - 1))) (v / 256 ^ (n - i) % 256) (omega arith));
     }
-
-pub scattered_end : (v at n : ℕ) (start out : List ℕ) (rest i : ℕ) → Scattered v at n start out rest i → i ≤ 0
-    → (rest ≡ v / 256 ^ n) × (out ≡ sets start (at + 1) (to_bytes n v))
-scattered_end v at n start out rest i s h =
-    let k : n - i ≡ n = omega arith in
-    let p : at + i + 1 ≡ at + 1 = omega arith in
-    (rw k at s.rest_is, rw (k, p) at s.out_is)
-
-pub scattered_length : (v at n : ℕ) (start out : List ℕ) (rest i : ℕ) → Scattered v at n start out rest i → length out ≡ length start
-scattered_length v at n start out rest i s = rw s.out_is (length-sets start (at + i + 1) (to_bytes (n - i) v))
 
 pub first_fits : (v n : ℕ) → v < 2 ^ 64 → n ≡ reached bounds v → lead n + v / 256 ^ n < 256
 first_fits v n h e = rw e (encoded_first v h)
 
 module _ (v n : ℕ) (out : List ℕ) (at : ℕ) (e : n ≡ reached bounds v) where
-  pub put_none : length out ≤ at + n → afterwards NoRoom out ≡ put_at v out at
+  pub put_none : length out ≤ at + n → afterwards None out ≡ put_at v out at
   put_none h = rw (← measured n v e, lt-leb (at + (n + 1)) (length out) (omega arith))
 
   pub put_done : (mid : List ℕ) (f : ℕ) → at + n < length out → mid ≡ sets out (at + 1) (to_bytes n v) → f ≡ lead n + v / 256 ^ n
-      → afterwards (Done (at + n + 1)) (set mid at f) ≡ put_at v out at
+      → afterwards (Some (at + n + 1)) (set mid at f) ≡ put_at v out at
   put_done mid f h m g =
       let p : at + n + 1 ≡ at + (n + 1) = omega arith in
       let q : set mid at f ≡ sets out at (encoded v) =

@@ -5,7 +5,7 @@ use mathlib.Core.Path.{◌≡◌, refl, sym, ap, ◌∙◌}
 use mathlib.Core.Bool.{Bool, true, false, cond, ◌||◌}
 use mathlib.Core.List.{List, [], ◌∷◌}
 use lib.Dec.{ltb}
-use borrow.Author.Tests.{ltb-true, ltb-false, lt-ltb, le-ltb}
+use borrow.Author.Tests.{ltb-true, ltb-false, lt-ltb}
 use Rattle.number.proofs.Clash.{clash}
 use Rattle.text.specs.Equal.{equal}
 use Rattle.text.proofs.Laws.{and_both, equal_refl, equal_is}
@@ -86,12 +86,6 @@ lesser_both k a b l m = go (ltb a b)
     go : (o : Bool) → k ≤ cond o a b
     go true = l
     go false = m
-
-pub lesser_first : (a b : ℕ) → a < b → a ≡ lesser a b
-lesser_first a b l = rw (lt-ltb a b l)
-
-pub lesser_second : (a b : ℕ) → b ≤ a → b ≡ lesser a b
-lesser_second a b l = rw (le-ltb a b l)
 
 -- it is no more than the beginning of a twin, and what is no more than any of these is no more than it
 least_least : (s t : List ℕ) (e : ℕ) (es : List ℕ) → In e es → is_twin s t e ≡ true → least_of s t es ≤ begin_in e

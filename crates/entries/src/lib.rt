@@ -39,13 +39,7 @@ fn mark(part: &[u8], begin: usize, end: usize) -> u64
 pub fn entry(part: &[u8], begin: usize, end: usize) -> u64
     ensures { result ≡ entry_of part.now begin end }
 {
-    if end < begin {
-        return 0;
-    }
-    if part.len() < end {
-        return 0;
-    }
-    if 16777216 <= part.len() {
+    if end < begin || part.len() < end || 16777216 <= part.len() {
         return 0;
     }
     let upper = mark(part, begin, end) * 16777216 + (end - begin) as u64;
@@ -71,10 +65,7 @@ pub fn length_of(x: u64) -> usize
 pub fn lesser(a: usize, b: usize) -> usize
     ensures { result ≡ lesser a b }
 {
-    if a < b {
-        return a;
-    }
-    b
+    a.min(b)
 }
 
 // ---- a table
@@ -83,9 +74,5 @@ pub fn lesser(a: usize, b: usize) -> usize
 pub fn clear(table: &mut [u64])
     ensures { table.new ≡ replicate (length table.old) 0 }
 {
-    let mut i = 0;
-    while i < table.len() {
-        table[i] = 0;
-        i += 1;
-    }
+    table.fill(0);
 }

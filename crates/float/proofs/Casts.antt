@@ -1,42 +1,36 @@
 -- Where the machine converts a float, and what it gives: the pattern is no NaN's, the other format holds the number, and an integer is one that
 -- Float64 counts without a gap.
-use mathlib.Core.Path.{◌≡◌, refl, sym, ap, ◌∙◌, subst}
-use Prim.Native.Nat.{ℕ, suc, ◌+◌, ◌*◌, ◌/◌, ◌%◌, ◌^◌, ◌≤◌, ◌<◌}
+use mathlib.Core.Path.{◌≡◌, refl, sym, ap, ◌∙◌}
+use Prim.Native.Nat.{ℕ, suc, ◌+◌, ◌*◌, ◌/◌, ◌%◌, ◌^◌, ◌≤◌}
 use native.Mathlib.Omega.{arith}
 use mathlib.Core.Bool.{Bool, true, false, not, ◌&&◌, cond}
-use lib.Dec.{T, leb, lt→ltb}
+use lib.Dec.{T}
 use lib.IntN.{ℤ, pos, negsuc}
-use lib.Signed.{lt_z}
-use lib.Ieee.{Float, nan, inf, fin, binary32, binary64, is_nan, nan_bits, of_bits, to_bits, of_int, round, in_float, fits}
+use lib.Ieee.{Float, nan, inf, fin, binary32, binary64, is_nan, nan_bits, of_bits, to_bits, of_int, round, fits}
 use lib.Ieee.Back.{round_whole}
-use lib.Ieee.Bits.{nan_bits_is, nan_bits_above, of_bits-fits}
+use lib.Ieee.Bits.{nan_bits_is, of_bits-fits}
 use lib.Ieee.Exact.{HasValue}
 use lib.Ieee.Fits.{and_i, fits_widens}
-use borrow.Author.Tests.{lt-ltb, le-ltb, le-leb, lt-leb, leb-true, ltb-true, ltb-false}
+use borrow.Author.Tests.{le-leb, leb-true}
 use mir.Syntax.{w64}
 use mir.Val.{SFits, to_z, of_z}
 use mir.ValLaws.{to_z-of_z}
+use Rattle.std.proofs.Common.{Some, None, unsigned_abs}
 use Rattle.float.specs.Rule.{holds}
-use Rattle.float.specs.Width.{is_nan64, widen_nan, widen, narrow, is_exact, of_integer}
+use Rattle.float.specs.Width.{is_nan32, is_nan64, widen_nan, widen, narrow, is_exact, of_integer}
 use Rattle.float.specs.Answer.{narrowed, exact}
-use Rattle.float.specs.declared.Narrowed.TheVariants.{To, No}
-use Rattle.float.specs.declared.Exact.TheVariants.{Bits, OutOfRange}
-use Rattle.float.proofs.Held.{to_T, to_not, held_fits}
+use Rattle.float.proofs.Held.{to_not, held_fits}
 use Rattle.float.proofs.Laws.{holds_nan}
 
--- ---- a Float32
-module _ (b : ℕ) where
-  pub nan_widened : 2139095040 < b % 2147483648 → b / 2 ^ 31 * 2 ^ 63 + 2047 * 2 ^ 52 + b % 2 ^ 23 * 2 ^ 29 ≡ widen b
+-- ---- a Float32 that is a NaN, or is not
+module _ (b : ℕ) (x : Bool) (e : x ≡ is_nan32 b) where
+  pub nan_widened : (s f : ℕ) → s ≡ b / 2 ^ 31 → f ≡ b % 2 ^ 23 → x ≡ true → s * 2 ^ 63 + 2047 * 2 ^ 52 + f * 2 ^ 29 ≡ widen b
   unfolding widen
-  nan_widened h =
-      sym (ap (λ (t : Bool). cond t (widen_nan b) (to_bits binary64 (of_bits binary32 b))) (nan_bits_above binary32 b ∙ lt-ltb 2139095040 (b % 2147483648) h))
+  nan_widened s f g k h = rw (g, k) (sym (ap (λ (t : Bool). cond t (widen_nan b) (to_bits binary64 (of_bits binary32 b))) (sym e ∙ h)))
 
-  module _ (h : b % 2147483648 ≤ 2139095040) where
-    no_nan : nan_bits binary32 b ≡ false
-    no_nan = nan_bits_above binary32 b ∙ le-ltb 2139095040 (b % 2147483648) h
-
-    pub bits_good : T (not (nan_bits binary32 b))
-    bits_good = to_not (nan_bits binary32 b) no_nan
+  module _ (h : x ≡ false) where
+    no_nan : is_nan32 b ≡ false
+    no_nan = sym e ∙ h
 
     pub value_good : T (not (is_nan (of_bits binary32 b)))
     value_good = to_not (is_nan (of_bits binary32 b)) (sym (nan_bits_is binary32 b) ∙ no_nan)
@@ -70,12 +64,12 @@ module _ (b : ℕ) (x : Bool) (e : x ≡ holds b) where
     pub narrows : T (fits binary32 (of_bits binary64 b) && not (is_nan (of_bits binary64 b)))
     narrows = and_i (fits binary32 (of_bits binary64 b)) (not (is_nan (of_bits binary64 b))) (held_fits b (sym e ∙ h)) wide_value_good
 
-    pub narrowed_to : To (to_bits binary32 (of_bits binary64 b)) ≡ narrowed b
+    pub narrowed_to : Some (to_bits binary32 (of_bits binary64 b)) ≡ narrowed b
     unfolding narrow
-    narrowed_to = sym (ap (λ (t : Bool). cond t (To (narrow b)) No) (sym e ∙ h))
+    narrowed_to = sym (ap (λ (t : Bool). cond t (Some (narrow b)) None) (sym e ∙ h))
 
-  pub narrowed_no : x ≡ false → No ≡ narrowed b
-  narrowed_no h = sym (ap (λ (t : Bool). cond t (To (narrow b)) No) (sym e ∙ h))
+  pub narrowed_no : x ≡ false → None ≡ narrowed b
+  narrowed_no h = sym (ap (λ (t : Bool). cond t (Some (narrow b)) None) (sym e ∙ h))
 
 -- ---- an integer
 
@@ -85,51 +79,25 @@ valued nan s a c h = h
 valued (inf t) s a c h = tt
 valued (fin t m e) s a c h = tt
 
-low_integer : (z : ℤ) → lt_z z (negsuc 9007199254740991) ≡ true → is_exact z ≡ false
-low_integer (pos n) e = absurd (subst (λ (b : Bool). T (not b)) e tt)
-low_integer (negsuc n) e = lt-leb (suc n) (2 ^ 53) (omega (arith, ltb-true 9007199254740991 n e))
-
-high_integer : (z : ℤ) → lt_z (pos 9007199254740992) z ≡ true → is_exact z ≡ false
-high_integer (pos n) e = lt-leb n (2 ^ 53) (ltb-true 9007199254740992 n e)
-high_integer (negsuc n) e = absurd (subst (λ (b : Bool). T (not b)) e tt)
-
-between : (z : ℤ) → lt_z z (negsuc 9007199254740991) ≡ false → lt_z (pos 9007199254740992) z ≡ false → is_exact z ≡ true
-between (pos n) a b = le-leb n (2 ^ 53) (ltb-false 9007199254740992 n b)
-between (negsuc n) a b = le-leb (suc n) (2 ^ 53) (omega (arith, ltb-false 9007199254740991 n a))
-
-exact_counts : (z : ℤ) → is_exact z ≡ true → T (in_float binary64 z)
-unfolding in_float
-exact_counts (pos n) e = to_T (leb n (2 ^ 53)) e
-exact_counts (negsuc n) e = lt→ltb n (2 ^ 53) (leb-true (suc n) (2 ^ 53) e)
+is_exact_law : (z : ℤ) → unsigned_abs z ≤ 2 ^ 53 → is_exact z ≡ true
+is_exact_law (pos n) h = le-leb n (2 ^ 53) h
+is_exact_law (negsuc n) h = le-leb (suc n) (2 ^ 53) (omega arith)
 
 exact_good : (z : ℤ) → is_exact z ≡ true → T (not (is_nan (of_int binary64 z)))
 unfolding of_int
 exact_good (pos n) e = valued (round binary64 false n 1) false n 1 (round_whole binary64 false n (leb-true n (2 ^ 53) e))
 exact_good (negsuc n) e = valued (round binary64 true (suc n) 1) true (suc n) 1 (round_whole binary64 true (suc n) (leb-true (suc n) (2 ^ 53) e))
 
-module _ (z : ℤ) (fit : SFits w64 z) where
-  abbrev read : ℤ
-  read = to_z w64 (of_z w64 z)
-
-  same : read ≡ z
+module _ (z : ℤ) (fit : SFits w64 z) (n : ℕ) (e : n ≡ unsigned_abs (to_z w64 (of_z w64 z))) (h : n ≤ 2 ^ 53) where
+  same : to_z w64 (of_z w64 z) ≡ z
   same = to_z-of_z w64 z fit
 
-  pub too_low : lt_z read (negsuc 9007199254740991) ≡ true → OutOfRange ≡ exact z
-  too_low h = sym (ap (λ (t : Bool). cond t (Bits (of_integer z)) OutOfRange) (low_integer z (rw same at h)))
+  inside : is_exact z ≡ true
+  inside = is_exact_law z (rw (e ∙ ap unsigned_abs same) at h)
 
-  pub too_high : lt_z (pos 9007199254740992) read ≡ true → OutOfRange ≡ exact z
-  too_high h = sym (ap (λ (t : Bool). cond t (Bits (of_integer z)) OutOfRange) (high_integer z (rw same at h)))
+  pub integer_good : T (not (is_nan (of_int binary64 (to_z w64 (of_z w64 z)))))
+  integer_good = rw same (exact_good z inside)
 
-  module _ (a : lt_z read (negsuc 9007199254740991) ≡ false) (b : lt_z (pos 9007199254740992) read ≡ false) where
-    is_exact_law : is_exact z ≡ true
-    is_exact_law = between z (rw same at a) (rw same at b)
-
-    pub counts : T (in_float binary64 read)
-    counts = rw same (exact_counts z is_exact_law)
-
-    pub integer_good : T (not (is_nan (of_int binary64 read)))
-    integer_good = rw same (exact_good z is_exact_law)
-
-    pub exact_bits : Bits (to_bits binary64 (of_int binary64 read)) ≡ exact z
-    unfolding of_integer
-    exact_bits = ap (λ (y : ℤ). Bits (to_bits binary64 (of_int binary64 y))) same ∙ sym (ap (λ (t : Bool). cond t (Bits (of_integer z)) OutOfRange) is_exact_law)
+  pub exact_bits : Some (to_bits binary64 (of_int binary64 (to_z w64 (of_z w64 z)))) ≡ exact z
+  unfolding of_integer
+  exact_bits = rw same (sym (ap (λ (t : Bool). cond t (Some (of_integer z)) None) inside))

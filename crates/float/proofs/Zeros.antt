@@ -9,8 +9,6 @@ use mathlib.Core.Bool.{Bool, true, false, ◌&&◌, ◌||◌}
 use lib.Count.{count_trailing_zeros, under}
 use lib.Dec.{leb, eqb, leb-zero, leb-suc-zero, leb-suc-suc}
 use lib.Pow.{low, mod-pow-add}
-use mir.Syntax.{w64}
-use mir.Val.{Fits}
 use borrow.Author.Tests.{leb-true, leb-false, le-leb, lt-leb, eq-eqb, ne_eqb, eqb-true, eqb-false}
 use Rattle.float.specs.Rule.{exponent, fraction, spare, holds}
 
@@ -136,12 +134,6 @@ module _ (b : ℕ) where
       go : (53 ≤ zeros) ⊎ (zeros < 53) → zeros ≤ 52
       go (inl h) = absurd (no (le-leb 53 zeros h))
       go (inr h) = omega arith
-
-  pub zeros_fit : Fits w64 zeros
-  zeros_fit = record { fits = omega (arith, at_most) }
-
-  pub sum_fits : Fits w64 (zeros + exponent b)
-  sum_fits = record { fits = omega (arith, at_most) }
 
   pub by_zeros : ((eqb (b % 2 ^ 63 * 2) 0 || eqb (b % 2 ^ 63 * 2) (2047 * 2 ^ 53)) || (leb 926 (zeros + exponent b) && leb 29 zeros && leb (exponent b) 1150))
       ≡ holds b

@@ -11,8 +11,7 @@ use lib.Dec.{ltb}
 use borrow.Author.Tests.{ltb-false, le-ltb}
 use Rattle.number.proofs.Clash.{clash}
 use Rattle.number.specs.BigEndian.{All, Bytes}
-use Rattle.number.specs.VarUInt.{var_uint, encoded}
-use Rattle.number.specs.declared.VarUInt.TheVariants.{Whole}
+use Rattle.number.specs.VarUInt.{var_uint, encoded, whole as whole_number}
 use Rattle.number.proofs.NumberThenLaws.{number_all}
 use Rattle.number.proofs.VarUIntLaws.{var_rt, var_inv}
 use Rattle.format.specs.declared.Stop.{Stop}
@@ -64,7 +63,7 @@ pub number_case : {X : Type 0} (s : List ℕ) {v : ℕ} {r : List ℕ} → Bytes
 unfolding read_var_uint
 number_case {X} s {v} {r} w h c = number_all (λ o. o ≡ got v [] r → X) _ _ s never go h
   where
-    go : (u n : ℕ) (x : Bool) → var_uint s ≡ Whole u n x → raise (not x) Long (got u [] (drop n s)) ≡ got v [] r → X
+    go : (u n : ℕ) (x : Bool) → var_uint s ≡ whole_number u n x → raise (not x) Long (got u [] (drop n s)) ≡ got v [] r → X
     go u n false e h = flawed h
     go u n true e h =
         let i = var_inv s u n w e in

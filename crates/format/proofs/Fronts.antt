@@ -1,12 +1,11 @@
 -- What stands before a payload, the type byte and the name, for each form of a field: read back, and only it is.
+use Rattle.std.specs.Prelude.{Option, None, Some}
 use Prim.Native.Nat.{ℕ, ◌+◌, ◌^◌, ◌<◌}
 use mathlib.Core.Path.{◌≡◌, refl, subst}
 use mathlib.Core.List.{List, [], ◌∷◌, ◌++◌}
 use lib.ListN.{length}
 use Rattle.number.specs.BigEndian.{Bytes}
 use Rattle.format.specs.declared.Kind.{Kind}
-use Rattle.format.specs.declared.Known.{Known}
-use Rattle.format.specs.declared.Known.TheVariants.{Unknown, Is}
 use Rattle.format.specs.declared.Mark.{Mark}
 use Rattle.format.specs.declared.Mark.TheVariants.{OfTop, OfField, OfItem}
 use Rattle.format.specs.declared.Form.{Form}
@@ -51,9 +50,9 @@ type_case : {X : Type 0} (m : Mark) (s : List ℕ) {k : Kind} {r : List ℕ} →
 type_case m [] w h c = never h
 type_case {X} m (b ∷ s) {k} {r} w h c = go (kind_at m b) refl h
   where
-    go : (o : Known) → kind_at m b ≡ o → kind_found o s ≡ got k [] r → X
-    go Unknown e h = never h
-    go (Is l) e h =
+    go : (o : Option Kind) → kind_at m b ≡ o → kind_found o s ≡ got k [] r → X
+    go None e h = never h
+    go (Some l) e h =
         let z : l ≡ k = cc in
         let y : s ≡ r = cc in
         let x : b ≡ type_byte m k = rw z at (kind_inv m b l e) in

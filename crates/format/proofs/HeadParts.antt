@@ -1,4 +1,5 @@
 -- What stands before a field's contents is local; a front ends with the name; the contents end where the payload ends; and a field takes a byte at least.
+use Rattle.std.specs.Prelude.{Option, None, Some}
 use Prim.Native.Nat.{ℕ, ◌^◌, ◌<◌}
 use native.Mathlib.Omega.{arith}
 use mathlib.Core.Path.{◌≡◌, refl, sym, ap, ◌∙◌}
@@ -11,8 +12,6 @@ use Rattle.number.specs.BigEndian.{from_bytes}
 use Rattle.text.specs.Utf8.{is_text}
 use Rattle.float.specs.Rule.{holds}
 use Rattle.format.specs.declared.Kind.{Kind}
-use Rattle.format.specs.declared.Known.{Known}
-use Rattle.format.specs.declared.Known.TheVariants.{Unknown, Is}
 use Rattle.format.specs.declared.Mark.{Mark}
 use Rattle.format.specs.declared.Mark.TheVariants.{OfTop, OfField, OfItem, SharedByFields, SharedByItems}
 use Rattle.format.specs.declared.Form.{Form}
@@ -85,9 +84,9 @@ type_ends : (m : Mark) (s : List ℕ) {k : Kind} {fs : List Flaw} {q : List ℕ}
 type_ends m [] h = never h
 type_ends m (b ∷ s) {k} {fs} {q} h = go (kind_at m b) h
   where
-    go : (o : Known) → kind_found o s ≡ got k fs q → (c : ℕ) × (b ∷ s ≡ c ∷ q)
-    go Unknown h = never h
-    go (Is l) h = (b, cc)
+    go : (o : Option Kind) → kind_found o s ≡ got k fs q → (c : ℕ) × (b ∷ s ≡ c ∷ q)
+    go None h = never h
+    go (Some l) h = (b, cc)
 
 -- a form that has a byte of its own before the payload
 abbrev pub Taken : Form → List ℕ → List ℕ → Type 0

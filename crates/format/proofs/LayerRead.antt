@@ -1,4 +1,5 @@
 -- One layer of a tree: if the fields are read back, then so is a container.
+use Rattle.std.specs.Prelude.{Some}
 use Prim.Native.Nat.{ℕ, suc, ◌+◌, ◌^◌, ◌≤◌, ◌<◌}
 use native.Mathlib.Omega.{arith}
 use mathlib.Core.Path.{◌≡◌, refl}
@@ -11,7 +12,6 @@ use Rattle.number.specs.BigEndian.{All}
 use Rattle.number.specs.VarUInt.{encoded}
 use Rattle.format.specs.declared.Kind.{Kind}
 use Rattle.format.specs.declared.Kind.TheVariants.{Object, UniformObject, Array, UniformArray}
-use Rattle.format.specs.declared.Known.TheVariants.{Is}
 use Rattle.format.specs.declared.Mark.TheVariants.{OfItem, SharedByFields, SharedByItems}
 use Rattle.format.specs.declared.Form.TheVariants.{Field, Item, SharedField, SharedItem}
 use Rattle.format.specs.Kinds.{type_byte, same, all, is_bare, is_uniform, is_uniform_array}
@@ -33,7 +33,7 @@ by_head : {X : Type 0} (p : Reader X) (k : Kind) (s : List ℕ) (h : Head) (t : 
     → contents p h ≡ got t [] [] → read_node p k s ≡ got t [] r
 by_head p k s h t r e i = rw (e, i)
 
-shared_more : (k : Kind) (s : List ℕ) → 1 ≤ length s → shared_fields_of (Is k) s ≡ got (fields_in (SharedField k) s) [] []
+shared_more : (k : Kind) (s : List ℕ) → 1 ≤ length s → shared_fields_of (Some k) s ≡ got (fields_in (SharedField k) s) [] []
 shared_more k [] h = absurd (omega arith)
 shared_more k (b ∷ s) h = refl
 

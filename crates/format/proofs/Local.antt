@@ -8,8 +8,7 @@ use lib.ListN.{length, take, drop, length-append, take-append-drop}
 use lib.Seq.{take_at, drop_at, length-take-le}
 use lib.Dec.{ltb}
 use borrow.Author.Tests.{ltb-false, le-ltb}
-use Rattle.number.specs.VarUInt.{var_uint}
-use Rattle.number.specs.declared.VarUInt.TheVariants.{Whole}
+use Rattle.number.specs.VarUInt.{var_uint, whole as whole_number}
 use Rattle.number.proofs.NumberThenLaws.{number_all}
 use Rattle.number.proofs.VarUIntLaws.{var_range, var_local}
 use Rattle.format.specs.declared.Stop.TheVariants.{Early}
@@ -73,7 +72,7 @@ local_number s a fs r h = number_all (λ o. o ≡ got a fs r → Alone) _ _ s ne
     Alone : Type 0
     Alone = (w : List ℕ) × (s ≡ w ++ r) × ((q : List ℕ) → number (var_uint (w ++ q)) (w ++ q) ≡ got a fs q)
 
-    go : (v n : ℕ) (x : Bool) → var_uint s ≡ Whole v n x → raise (not x) Long (got v [] (drop n s)) ≡ got a fs r → Alone
+    go : (v n : ℕ) (x : Bool) → var_uint s ≡ whole_number v n x → raise (not x) Long (got v [] (drop n s)) ≡ got a fs r → Alone
     go v n x e h =
         let l = (var_range s v n x e).2 in
         let m : length (take n s) ≡ n = length-take-le n s l in
@@ -127,7 +126,7 @@ pub number_takes : (s : List ℕ) {v : ℕ} {fs : List Flaw} {r : List ℕ} → 
 unfolding read_var_uint
 number_takes s {v = a} {fs} {r} h = number_all (λ o. o ≡ got a fs r → length r < length s) _ _ s never go h
   where
-    go : (v n : ℕ) (x : Bool) → var_uint s ≡ Whole v n x → raise (not x) Long (got v [] (drop n s)) ≡ got a fs r → length r < length s
+    go : (v n : ℕ) (x : Bool) → var_uint s ≡ whole_number v n x → raise (not x) Long (got v [] (drop n s)) ≡ got a fs r → length r < length s
     go v n x e h = raise_got (not x) Long (got v [] (drop n s)) h λ gs k.
         let i = var_range s v n x e in
         let y : drop n s ≡ r = cc in

@@ -1,11 +1,9 @@
 -- Kinds and type bytes (document 01, "Kinds and payloads").
-use Rattle.std.specs.Prelude.{ℕ, ◌+◌, ◌-◌, Bool, true, false, ◌&&◌, ◌||◌, not, cond, List, [], ◌∷◌, eqb, ltb}
+use Rattle.std.specs.Prelude.{ℕ, ◌+◌, ◌-◌, Bool, true, false, ◌&&◌, ◌||◌, not, cond, List, [], ◌∷◌, eqb, ltb, Option, None, Some}
 use Rattle.format.specs.declared.Kind.{Kind}
 use Rattle.format.specs.declared.Kind.TheVariants.{Null, Object, UniformObject, Array, UniformArray, Binary, String, IntegerPositive, IntegerNegative}
 use Rattle.format.specs.declared.Kind.TheVariants.{Float32, Float64, False, True, ObjectAttachment, BinaryAttachment, Hash, Uuid, DateTime, TimeSpan}
 use Rattle.format.specs.declared.Kind.TheVariants.{ObjectId, CustomById, CustomByName}
-use Rattle.format.specs.declared.Known.{Known}
-use Rattle.format.specs.declared.Known.TheVariants.{Unknown, Is}
 use Rattle.format.specs.declared.Mark.{Mark}
 use Rattle.format.specs.declared.Mark.TheVariants.{OfTop, OfField, OfItem, SharedByFields, SharedByItems}
 
@@ -38,12 +36,12 @@ kinds =
     Null ∷ Object ∷ UniformObject ∷ Array ∷ UniformArray ∷ Binary ∷ String ∷ IntegerPositive ∷ IntegerNegative ∷ Float32 ∷ Float64 ∷ False ∷ True
     ∷ ObjectAttachment ∷ BinaryAttachment ∷ Hash ∷ Uuid ∷ DateTime ∷ TimeSpan ∷ ObjectId ∷ CustomById ∷ CustomByName ∷ []
 
-abbrev pub with_id : ℕ → List Kind → Known
-with_id n [] = Unknown
-with_id n (k ∷ ks) = cond (eqb n (id k)) (Is k) (with_id n ks)
+abbrev pub with_id : ℕ → List Kind → Option Kind
+with_id n [] = None
+with_id n (k ∷ ks) = cond (eqb n (id k)) (Some k) (with_id n ks)
 
 -- the kind with this ID: every other ID is unknown
-unfoldable pub known : ℕ → Known
+unfoldable pub known : ℕ → Option Kind
 known n = with_id n kinds
 
 -- what a type byte has above its ID; in the byte that fields share, by document 02, M-102
@@ -58,8 +56,8 @@ abbrev pub type_byte : Mark → Kind → ℕ
 type_byte m k = flags m + id k
 
 -- the kind of a type byte: unknown ID, or other flag bits than the place asks
-abbrev pub kind_at : Mark → ℕ → Known
-kind_at m b = cond (ltb b (flags m)) Unknown (known (b - flags m))
+abbrev pub kind_at : Mark → ℕ → Option Kind
+kind_at m b = cond (ltb b (flags m)) None (known (b - flags m))
 
 abbrev pub same : Kind → Kind → Bool
 same k l = eqb (id k) (id l)

@@ -1,11 +1,12 @@
 -- Reading from the front of a list of bytes: a stopping fault; or a value, the faults met that do not stop, and what is left.
-use Rattle.std.specs.Prelude.{ℕ, zero, suc, Bool, true, false, not, cond, List, [], ◌∷◌, ◌++◌, length, take, drop, ltb, leb}
+use Rattle.std.specs.Prelude.{ℕ, zero, suc, Bool, true, false, not, cond, List, [], ◌∷◌, ◌++◌, length, take, drop, ltb, leb, Result}
 use Rattle.number.specs.VarUInt.{var_uint, number_then}
-use Rattle.number.specs.declared.VarUInt.{VarUInt}
 use Rattle.format.specs.declared.Flaw.{Flaw}
 use Rattle.format.specs.declared.Flaw.TheVariants.{Long}
 use Rattle.format.specs.declared.Stop.{Stop}
 use Rattle.format.specs.declared.Stop.TheVariants.{Early}
+use Rattle.number.specs.declared.VarUInt.{VarUInt}
+use Rattle.number.specs.declared.Cut.{Cut}
 
 pub data Out (A : Type 0) : Type 0 where
   fault : Stop → Out A
@@ -34,7 +35,7 @@ whole (fault k) r = fault k
 whole (got a fs []) r = got a fs r
 whole (got a fs (b ∷ bs)) r = fault Early
 
-abbrev pub number : VarUInt → List ℕ → Out ℕ
+abbrev pub number : Result VarUInt Cut → List ℕ → Out ℕ
 number o s = number_then (fault Early) (λ v n m. raise (not m) Long (got v [] (drop n s))) o
 
 unfoldable pub read_var_uint : List ℕ → Out ℕ

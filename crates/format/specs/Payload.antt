@@ -1,6 +1,6 @@
 -- What stands before a field's contents: its type byte and name (`front`), and its payload up to the contents (`head`). The reader and the calls
 -- on places share them, and the write list shares the table of payloads (document 01, "Kinds and payloads", and the order at a field, "The mask").
-use Rattle.std.specs.Prelude.{ℕ, zero, suc, ◌^◌, true, false, not, cond, List, [], ◌∷◌, ltb, pos}
+use Rattle.std.specs.Prelude.{ℕ, zero, suc, ◌^◌, true, false, not, cond, List, [], ◌∷◌, ltb, pos, Option, None, Some}
 use Rattle.number.specs.BigEndian.{from_bytes}
 use Rattle.number.specs.Signed.{minus_plus_one, from_twos}
 use Rattle.float.specs.Rule.{holds}
@@ -9,8 +9,6 @@ use Rattle.format.specs.declared.Kind.{Kind}
 use Rattle.format.specs.declared.Kind.TheVariants.{Null, Object, UniformObject, Array, UniformArray, Binary, String, IntegerPositive, IntegerNegative}
 use Rattle.format.specs.declared.Kind.TheVariants.{Float32, Float64, False, True, ObjectAttachment, BinaryAttachment, Hash, Uuid, DateTime, TimeSpan}
 use Rattle.format.specs.declared.Kind.TheVariants.{ObjectId, CustomById, CustomByName}
-use Rattle.format.specs.declared.Known.{Known}
-use Rattle.format.specs.declared.Known.TheVariants.{Unknown, Is}
 use Rattle.format.specs.declared.Mark.{Mark}
 use Rattle.format.specs.declared.Mark.TheVariants.{OfTop, OfField, OfItem, SharedByFields, SharedByItems}
 use Rattle.format.specs.declared.Form.{Form}
@@ -30,9 +28,9 @@ use Rattle.format.specs.Tree.{uuid, object_id, date_time, time_span, custom_by_i
 
 -- ---- the type byte and the name
 
-abbrev pub kind_found : Known → List ℕ → Out Kind
-kind_found Unknown s = fault S.Unknown
-kind_found (Is k) s = got k [] s
+abbrev pub kind_found : Option Kind → List ℕ → Out Kind
+kind_found None s = fault S.Unknown
+kind_found (Some k) s = got k [] s
 
 abbrev pub read_type : Mark → List ℕ → Out Kind
 read_type m [] = fault Early
@@ -155,19 +153,19 @@ pub data Head : Type 0 where
   fields_in : Form → List ℕ → Head
   items_in : Form → ℕ → List ℕ → Head
 
-abbrev pub shared_fields_of : Known → List ℕ → Out Head
-shared_fields_of Unknown s = fault S.Unknown
-shared_fields_of (Is k) [] = fault BadUniform
-shared_fields_of (Is k) (b ∷ s) = got (fields_in (SharedField k) (b ∷ s)) [] []
+abbrev pub shared_fields_of : Option Kind → List ℕ → Out Head
+shared_fields_of None s = fault S.Unknown
+shared_fields_of (Some k) [] = fault BadUniform
+shared_fields_of (Some k) (b ∷ s) = got (fields_in (SharedField k) (b ∷ s)) [] []
 
 abbrev pub read_shared_fields : List ℕ → Out Head
 read_shared_fields [] = fault Early
 read_shared_fields (b ∷ s) = shared_fields_of (kind_at SharedByFields b) s
 
-abbrev pub shared_items_of : ℕ → Known → List ℕ → Out Head
-shared_items_of n Unknown s = fault S.Unknown
-shared_items_of zero (Is k) s = fault BadUniform
-shared_items_of (suc n) (Is k) s = cond (is_bare k) (fault BadUniform) (got (items_in (SharedItem k) (suc n) s) [] [])
+abbrev pub shared_items_of : ℕ → Option Kind → List ℕ → Out Head
+shared_items_of n None s = fault S.Unknown
+shared_items_of zero (Some k) s = fault BadUniform
+shared_items_of (suc n) (Some k) s = cond (is_bare k) (fault BadUniform) (got (items_in (SharedItem k) (suc n) s) [] [])
 
 abbrev pub read_shared_items : ℕ → List ℕ → Out Head
 read_shared_items n [] = fault Early

@@ -5,6 +5,9 @@ ghost use Rattle.std.specs.Prelude.{◌≡◌};
 ghost use Rattle.format.specs.Kinds.{id, known, flags, kind_at, is_bare};
 ghost use Rattle.format.specs.Mask.{stop_value};
 ghost use Rattle.format.specs.Payload.{class_of};
+ghost use Rattle.format.specs.declared.Stop.TheVariants.{Early};
+
+use number::Cut;
 
 // The greatest depth, and the greatest length of a payload or a write list ("Limits").
 pub const DEPTH: u32 = 32;
@@ -36,13 +39,6 @@ pub enum Kind {
     ObjectId,
     CustomById,
     CustomByName,
-}
-
-// What an ID is: no kind's, or this kind's.
-#[derive(Clone, Copy)]
-pub enum Known {
-    Unknown,
-    Is(Kind),
 }
 
 // Where a type byte stands: before the top field, a field of an object or an item of an array, or shared by all the fields
@@ -80,6 +76,15 @@ pub enum Stop {
     TooLong,
     // 03 with no field; 05 with count 0 or with items of 01, 0C or 0D.
     BadUniform,
+}
+
+// Where a number is cut off, bytes end early.
+impl From<Cut> for Stop {
+    ghost from_gives = { λ _ stop. stop ≡ Early };
+
+    fn from(_cut: Cut) -> Stop {
+        Stop::Early
+    }
 }
 
 // The faults that do not stop ("The mask"). Bytes after the top field are what is left in the end.
@@ -124,34 +129,36 @@ pub enum Inner {
     SharedItems,
 }
 
-// The kind with an ID.
-pub fn known_of(b: u8) -> Known
+// Functions and no `From`: a kind, a mark, a fault have several numbers, and a function's name says which.
+
+// The kind with an ID, if there is one.
+pub fn known_of(b: u8) -> Option<Kind>
     ensures { result ≡ known b }
 {
     match b {
-        0x01 => Known::Is(Kind::Null),
-        0x02 => Known::Is(Kind::Object),
-        0x03 => Known::Is(Kind::UniformObject),
-        0x04 => Known::Is(Kind::Array),
-        0x05 => Known::Is(Kind::UniformArray),
-        0x06 => Known::Is(Kind::Binary),
-        0x07 => Known::Is(Kind::String),
-        0x08 => Known::Is(Kind::IntegerPositive),
-        0x09 => Known::Is(Kind::IntegerNegative),
-        0x0a => Known::Is(Kind::Float32),
-        0x0b => Known::Is(Kind::Float64),
-        0x0c => Known::Is(Kind::False),
-        0x0d => Known::Is(Kind::True),
-        0x0e => Known::Is(Kind::ObjectAttachment),
-        0x0f => Known::Is(Kind::BinaryAttachment),
-        0x10 => Known::Is(Kind::Hash),
-        0x11 => Known::Is(Kind::Uuid),
-        0x12 => Known::Is(Kind::DateTime),
-        0x13 => Known::Is(Kind::TimeSpan),
-        0x14 => Known::Is(Kind::ObjectId),
-        0x1e => Known::Is(Kind::CustomById),
-        0x1f => Known::Is(Kind::CustomByName),
-        _ => Known::Unknown,
+        0x01 => Some(Kind::Null),
+        0x02 => Some(Kind::Object),
+        0x03 => Some(Kind::UniformObject),
+        0x04 => Some(Kind::Array),
+        0x05 => Some(Kind::UniformArray),
+        0x06 => Some(Kind::Binary),
+        0x07 => Some(Kind::String),
+        0x08 => Some(Kind::IntegerPositive),
+        0x09 => Some(Kind::IntegerNegative),
+        0x0a => Some(Kind::Float32),
+        0x0b => Some(Kind::Float64),
+        0x0c => Some(Kind::False),
+        0x0d => Some(Kind::True),
+        0x0e => Some(Kind::ObjectAttachment),
+        0x0f => Some(Kind::BinaryAttachment),
+        0x10 => Some(Kind::Hash),
+        0x11 => Some(Kind::Uuid),
+        0x12 => Some(Kind::DateTime),
+        0x13 => Some(Kind::TimeSpan),
+        0x14 => Some(Kind::ObjectId),
+        0x1e => Some(Kind::CustomById),
+        0x1f => Some(Kind::CustomByName),
+        _ => None,
     }
 }
 
@@ -169,14 +176,10 @@ pub fn flags_of(mark: Mark) -> u8
 }
 
 // The kind of a type byte.
-pub fn kind_at(mark: Mark, b: u8) -> Known
+pub fn kind_at(mark: Mark, b: u8) -> Option<Kind>
     ensures { result ≡ kind_at mark b }
 {
-    let f = flags_of(mark);
-    if b < f {
-        return Known::Unknown;
-    }
-    known_of(b - f)
+    known_of(b.checked_sub(flags_of(mark))?)
 }
 
 pub fn id_of(kind: Kind) -> u8

@@ -1,4 +1,5 @@
 -- The heading of a payload: of a leaf it is the leaf, and of a container it is none.
+use Rattle.std.specs.Prelude.{Option, None, Some, Result, Err, Ok}
 use Prim.Native.Nat.{ℕ, zero, suc, ◌-◌}
 use mathlib.Core.Path.{◌≡◌, refl, ap, ◌∙◌}
 use mathlib.Core.Bool.{Bool, true, false, cond}
@@ -7,16 +8,12 @@ use lib.ListN.{length, drop, take}
 use lib.Dec.{ltb}
 use Rattle.number.proofs.Clash.{clash}
 use Rattle.format.specs.declared.Kind.{Kind}
-use Rattle.format.specs.declared.Known.{Known}
-use Rattle.format.specs.declared.Known.TheVariants.{Unknown, Is}
 use Rattle.format.specs.declared.Mark.TheVariants.{SharedByFields, SharedByItems}
 use Rattle.faults.specs.declared.Modes.{Modes}
 use Rattle.faults.specs.declared.Faults.{Faults}
 use Rattle.format.specs.declared.Form.TheVariants.{Item, SharedItem}
 use Rattle.format.specs.declared.Stop.TheVariants.{Early, BadUniform}
 use Rattle.format.specs.declared.Stop.{Stop}
-use Rattle.leaves.specs.declared.Heading.{Heading}
-use Rattle.leaves.specs.declared.Heading.TheVariants as H
 use Rattle.frames.specs.declared.Refusal.TheVariants.{BadFrame}
 use Rattle.format.specs.Kinds.{is_bare, kind_at}
 use Rattle.format.specs.declared.Flaw.{Flaw}
@@ -28,28 +25,32 @@ use Rattle.frames.specs.FramePieces.{IsLeaf}
 use Rattle.faults.specs.Noted.{noted, nothing}
 use Rattle.front.specs.Code.{answer_of}
 use Rattle.head.specs.Code.{heading_of, head_at}
+use Rattle.head.proofs.HeadReturns.{head_fixed, head_text, head_positive, head_negative, head_wide}
 use Rattle.format.proofs.Lists.{append_nil}
 use Rattle.format.proofs.Local.{with_put}
-use Rattle.frame.specs.declared.LeafFrame.TheVariants as L
 use Rattle.frame.specs.Pieces.{leaf_frame_of}
+use Rattle.leaves.specs.declared.Heading.TheVariants as H
+use Rattle.leaves.specs.declared.Heading.{Heading}
 
 -- ---- read with no faults met before
 
-pub unfaulted : (k : Kind) (m : Modes) (g : Faults) (s : List ℕ) (r : Heading) → g ≡ nothing → r ≡ head_at k m g s → r ≡ head_at k m nothing s
+pub unfaulted : (k : Kind) (m : Modes) (g : Faults) (s : List ℕ) (r : Result Heading Stop) → g ≡ nothing → r ≡ head_at k m g s → r ≡ head_at k m nothing s
 unfaulted k m g s r e h = h ∙ ap (λ f. head_at k m f s) e
+
+pub ruleset heading_laws = (unfaulted, head_fixed, head_text, head_positive, head_negative, head_wide)
 
 -- ---- a heading of a leaf is the leaf
 
-abbrev pub heading_leaf : Modes → Faults → ℕ → Out Leaf → Heading
-heading_leaf m g n (fault j) = H.Stop j
-heading_leaf m g n (got v fs r) = H.Leaf (n - length r) (noted m g fs)
+abbrev pub heading_leaf : Modes → Faults → ℕ → Out Leaf → Result Heading Stop
+heading_leaf m g n (fault j) = Err j
+heading_leaf m g n (got v fs r) = Ok (H.Leaf (n - length r) (noted m g fs))
 
 pub heading_leaf_law : (k : Kind) (p : List ℕ → Out Leaf) → payload k ≡ leaf p → (m : Modes) (g : Faults) (s : List ℕ)
     → head_at k m g s ≡ heading_leaf m g (length s) (p s)
 unfolding head_at head
 heading_leaf_law k p e m g s = rw e (go (p s))
   where
-    go : (o : Out Leaf) → answer_of H.Stop (λ x h r. heading_of x h (length s - length r)) m g (make value o) ≡ heading_leaf m g (length s) o
+    go : (o : Out Leaf) → answer_of Err (λ x h r. heading_of x h (length s - length r)) m g (make value o) ≡ heading_leaf m g (length s) o
     go (fault j) = refl
     go (got v fs r) = rw (with_put fs [] (value v) r, append_nil fs)
 
@@ -88,15 +89,15 @@ opens_sized : (p : List ℕ → Out Head) (s : List ℕ) → ((b : List ℕ) →
 opens_sized p s h = opens_bind (read_var_uint s) (λ n r. cond (ltb (length r) n) (fault Early) (whole (p (take n r)) (drop n r))) λ n r.
     opens_cond (ltb (length r) n) Early (whole (p (take n r)) (drop n r)) (opens_whole (p (take n r)) (drop n r) (h (take n r)))
 
-opens_fields : (o : Known) (s : List ℕ) → Opens (shared_fields_of o s)
-opens_fields Unknown s = tt
-opens_fields (Is k) [] = tt
-opens_fields (Is k) (b ∷ s) = tt
+opens_fields : (o : Option Kind) (s : List ℕ) → Opens (shared_fields_of o s)
+opens_fields None s = tt
+opens_fields (Some k) [] = tt
+opens_fields (Some k) (b ∷ s) = tt
 
-opens_items : (n : ℕ) (o : Known) (s : List ℕ) → Opens (shared_items_of n o s)
-opens_items n Unknown s = tt
-opens_items zero (Is k) s = tt
-opens_items (suc n) (Is k) s = opens_cond (is_bare k) BadUniform (got (items_in (SharedItem k) (suc n) s) [] []) tt
+opens_items : (n : ℕ) (o : Option Kind) (s : List ℕ) → Opens (shared_items_of n o s)
+opens_items n None s = tt
+opens_items zero (Some k) s = tt
+opens_items (suc n) (Some k) s = opens_cond (is_bare k) BadUniform (got (items_in (SharedItem k) (suc n) s) [] []) tt
 
 opens_shared_fields : (s : List ℕ) → Opens (read_shared_fields s)
 opens_shared_fields [] = tt
@@ -108,7 +109,7 @@ opens_shared_items n (b ∷ s) = opens_items n (kind_at SharedByItems b) s
 
 -- either it is a leaf's kind, or its heading is no leaf and it is refused as one
 module _ (k : Kind) (m : Modes) (g : Faults) (s : List ℕ) where
-  pub leaf_or : {X : Type 0} → (IsLeaf (payload k) → X) → (Opens (head k s) → L.Refused BadFrame ≡ leaf_frame_of k s → X) → X
+  pub leaf_or : {X : Type 0} → (IsLeaf (payload k) → X) → (Opens (head k s) → Err BadFrame ≡ leaf_frame_of k s → X) → X
   unfolding head leaf_frame_of
   leaf_or {X} c d = go (payload k) refl
     where
@@ -120,11 +121,11 @@ module _ (k : Kind) (m : Modes) (g : Faults) (s : List ℕ) where
       go shared_items e =
           d (rw e (opens_sized (λ b. bind (read_var_uint b) read_shared_items) s (λ b. opens_bind (read_var_uint b) read_shared_items opens_shared_items))) (rw e)
 
-  pub not_leaf : {X : Type 0} → Opens (head k s) → (b : ℕ) (h : Faults) → head_at k m g s ≡ H.Leaf b h → X
+  pub not_leaf : {X : Type 0} → Opens (head k s) → (b : ℕ) (h : Faults) → head_at k m g s ≡ Ok (H.Leaf b h) → X
   unfolding head_at
   not_leaf {X} o b h z = go (head k s) o z
     where
-      go : (q : Out Head) → Opens q → answer_of H.Stop (λ x h r. heading_of x h (length s - length r)) m g q ≡ H.Leaf b h → X
+      go : (q : Out Head) → Opens q → answer_of Err (λ x h r. heading_of x h (length s - length r)) m g q ≡ Ok (H.Leaf b h) → X
       go (fault j) o z = clash cc
       go (got (value v) fs r) o z = absurd o
       go (got (fields_in x c) fs r) o z = clash cc

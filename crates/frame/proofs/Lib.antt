@@ -1,3 +1,4 @@
+pub mod MadeLaws
 mod FaultLaws
 pub mod NameReturns
 pub mod LeafHeadings

@@ -1,4 +1,5 @@
 -- What an answer of the writer means: a success is the encoding of the tree that the list describes, and a refusal leaves nothing behind.
+use Rattle.std.specs.Prelude.{Ok}
 use Prim.Native.Nat.{ℕ, ◌-◌, ◌≤◌}
 use mathlib.Core.Path.{◌≡◌, refl, sym, ap, ◌∙◌}
 use mathlib.Core.Bool.{Bool, true, false, ◌||◌, cond}
@@ -11,14 +12,13 @@ use Rattle.number.proofs.Clash.{clash}
 use Rattle.number.specs.BigEndian.{Bytes}
 use Rattle.frames.specs.declared.Refusal.{Refusal}
 use Rattle.frames.specs.declared.Refusal.TheVariants.{NoneOpen, ListTooLong, FewWorkNumbers, EncodingTooLong}
-use Rattle.frames.specs.declared.Written.TheVariants.{Done, Refused}
 use Rattle.format.specs.Limits.{depth_limit, length_limit}
 use Rattle.format.specs.Tree.{Tree}
 use Rattle.format.specs.Encoding.{encoding, sizes_of, WithinLimits}
 use Rattle.format.specs.Mask.{mask, strict}
 use Rattle.format.specs.Reader.{tree_of}
 use Rattle.frames.specs.WriteList.{Frames, refused, framed, next, read_frames, only, read_list}
-use Rattle.frames.specs.Writer.{Outcome, refuse, wrote, outcome, outcome_after, Result, zeros, result_of, written}
+use Rattle.frames.specs.Writer.{Outcome, refuse, wrote, outcome, outcome_after, Afterwards, zeros, result_of, written, refused_at}
 use Rattle.format.proofs.Spelling.{encoding_passes}
 use Rattle.frames.proofs.FrontLaws.{never, next_got}
 use Rattle.frames.proofs.Described.{frames_within}
@@ -42,7 +42,7 @@ list_ends d (b ∷ s) {t} {r} h = go (eqb b 0) h
 
 -- the result of writing n bytes: the list describes a tree within the limits; the output begins with its encoding, and is left as it was past it; the work
 -- numbers begin with the sizes of its containers, and are zero past them; strict passes the encoding, and the reader gives the tree back
-pub record Wrote (list output work : List ℕ) (n : ℕ) (result : Result) : Type 0 where
+pub record Wrote (list output work : List ℕ) (n : ℕ) (result : Afterwards) : Type 0 where
   pub tree : Tree depth_limit
   pub described : read_list depth_limit list ≡ framed tree []
   pub within : WithinLimits tree
@@ -54,10 +54,10 @@ pub record Wrote (list output work : List ℕ) (n : ℕ) (result : Result) : Typ
   pub strict_passes : mask strict (encoding depth_limit tree) ≡ 0
   pub reads_back : tree_of (encoding depth_limit tree) ≡ some tree
 
-no_success : {X : Type 0} {r : Refusal} {p n : ℕ} → Refused r p ≡ Done n → X
+no_success : {X : Type 0} {r : Refusal} {p n : ℕ} → refused_at r p ≡ Ok n → X
 no_success h = clash cc
 
-pub written_is_encoding : (list output work : List ℕ) (n : ℕ) → Bytes list → (written list output work).answer ≡ Done n
+pub written_is_encoding : (list output work : List ℕ) (n : ℕ) → Bytes list → (written list output work).answer ≡ Ok n
     → Wrote list output work n (written list output work)
 unfolding written outcome
 written_is_encoding list output work n w h = short (ltb length_limit (length list)) h
@@ -66,12 +66,12 @@ written_is_encoding list output work n w h = short (ltb length_limit (length lis
         → ltb (length output) (length (encoding depth_limit t)) ≡ small → ltb length_limit (length (encoding depth_limit t)) ≡ large
         → (o : Outcome)
         → o ≡ cond few (refuse FewWorkNumbers 0) (cond (small || large) (refuse EncodingTooLong 0) (wrote (encoding depth_limit t) (sizes_of depth_limit t)))
-        → (result_of o output work).answer ≡ Done n → Wrote list output work n (result_of o output work)
+        → (result_of o output work).answer ≡ Ok n → Wrote list output work n (result_of o output work)
     fits t e true small large a b c o z h = no_success (rw z at h)
     fits t e false true large a b c o z h = no_success (rw z at h)
     fits t e false false true a b c o z h = no_success (rw z at h)
     fits t e false false false a b c o z h =
-        let i : Done (length (encoding depth_limit t)) ≡ Done n = rw z at h in
+        let i : Ok (length (encoding depth_limit t)) ≡ Ok n = rw z at h in
         let m : length (encoding depth_limit t) ≡ n = cc in
         let l : WithinLimits t =
         record { within = frames_within depth_limit list w t [] e; short = ltb-false length_limit (length (encoding depth_limit t)) c } in
@@ -89,7 +89,7 @@ written_is_encoding list output work n w h = short (ltb length_limit (length lis
         })
 
     read : (f : Frames (Tree depth_limit)) → read_list depth_limit list ≡ f
-        → (result_of (outcome_after depth_limit (length output) (length work) list f) output work).answer ≡ Done n
+        → (result_of (outcome_after depth_limit (length output) (length work) list f) output work).answer ≡ Ok n
         → Wrote list output work n (result_of (outcome_after depth_limit (length output) (length work) list f) output work)
     read (refused r q) e h = no_success h
     read (framed t r) e h =
@@ -98,7 +98,7 @@ written_is_encoding list output work n w h = short (ltb length_limit (length lis
         (ltb length_limit (length (encoding depth_limit t))) refl refl refl _ refl h
 
     short : (b : Bool) → (result_of
-        (cond b (refuse ListTooLong 0) (outcome_after depth_limit (length output) (length work) list (read_list depth_limit list))) output work).answer ≡ Done n
+        (cond b (refuse ListTooLong 0) (outcome_after depth_limit (length output) (length work) list (read_list depth_limit list))) output work).answer ≡ Ok n
         → Wrote list output work n
         (result_of (cond b (refuse ListTooLong 0) (outcome_after depth_limit (length output) (length work) list (read_list depth_limit list))) output work)
     short true h = no_success h
@@ -106,16 +106,16 @@ written_is_encoding list output work n w h = short (ltb length_limit (length lis
 
 -- ---- refusal
 
-no_refusal : {X : Type 0} {r : Refusal} {p n : ℕ} → Done n ≡ Refused r p → X
+no_refusal : {X : Type 0} {r : Refusal} {p n : ℕ} → Ok n ≡ refused_at r p → X
 no_refusal h = clash cc
 
 -- the output is as it was, and every work number is zero
-pub refused_leaves : (list output work : List ℕ) (r : Refusal) (p : ℕ) → (written list output work).answer ≡ Refused r p
+pub refused_leaves : (list output work : List ℕ) (r : Refusal) (p : ℕ) → (written list output work).answer ≡ refused_at r p
     → ((written list output work).output ≡ output) × ((written list output work).work ≡ zeros (length work))
 unfolding written
 refused_leaves list output work r p h = go (outcome (length output) (length work) list) h
   where
-    go : (o : Outcome) → (result_of o output work).answer ≡ Refused r p
+    go : (o : Outcome) → (result_of o output work).answer ≡ refused_at r p
         → ((result_of o output work).output ≡ output) × ((result_of o output work).work ≡ zeros (length work))
     go (refuse n q) h = (refl, refl)
     go (wrote e z) h = no_refusal h

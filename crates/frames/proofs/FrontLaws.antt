@@ -1,9 +1,10 @@
 -- A frame up to its payload: what stands there as the encoding has it, and that a refusal carries the frame.
-use Prim.Native.Nat.{ℕ, ◌+◌, ◌-◌, ◌≤◌, ◌<◌}
+use Rattle.std.specs.Prelude.{Option, None, Some}
+use Prim.Native.Nat.{ℕ, ◌≤◌, ◌<◌}
 use native.Mathlib.Omega.{arith}
 use mathlib.Core.Path.{◌≡◌, refl, sym, ◌∙◌}
 use mathlib.Core.Bool.{Bool, true, false, cond}
-use mathlib.Core.Option.{Option, none, some}
+use mathlib.Core.Option.{Option as Optional, none, some}
 use mathlib.Core.List.{List, [], ◌∷◌, ◌++◌}
 use lib.ListN.{length, length-append}
 use lib.Dec.{eqb}
@@ -16,8 +17,6 @@ use Rattle.format.specs.declared.Kind.{Kind}
 use Rattle.format.specs.declared.Kind.TheVariants.{Null, Object, UniformObject, Array, UniformArray, Binary, String, IntegerPositive, IntegerNegative}
 use Rattle.format.specs.declared.Kind.TheVariants.{Float32, Float64, False, True, ObjectAttachment, BinaryAttachment, Hash, Uuid, DateTime, TimeSpan}
 use Rattle.format.specs.declared.Kind.TheVariants.{ObjectId, CustomById, CustomByName}
-use Rattle.format.specs.declared.Known.{Known}
-use Rattle.format.specs.declared.Known.TheVariants.{Unknown, Is}
 use Rattle.frames.specs.declared.Refusal.{Refusal}
 use Rattle.frames.specs.declared.Refusal.TheVariants.{BadFrame, EmptyName, NameUsed, NotText}
 use Rattle.format.specs.Kinds.{id, known, any}
@@ -71,19 +70,19 @@ writable_kind CustomById g h = refl
 writable_kind CustomByName g h = refl
 
 -- what `writable` says
-abbrev pub kind_by : List ℕ → Known → List ℕ → Frames Kind
-kind_by f Unknown s = refused BadFrame f
-kind_by f (Is k) s = framed k s
+abbrev pub kind_by : List ℕ → Option Kind → List ℕ → Frames Kind
+kind_by f None s = refused BadFrame f
+kind_by f (Some k) s = framed k s
 
 pub kind_is : (b : ℕ) (f s : List ℕ) → frame_kind f (known b) s ≡ kind_by f (writable b) s
 unfolding writable known payload
 kind_is b f s = go (eqb b 3) refl (eqb b 5) refl
   where
-    other : (b ≡ 3 → ⊥) → (b ≡ 5 → ⊥) → (o : Known) → known b ≡ o → frame_kind f o s ≡ kind_by f o s
-    other g h Unknown e = refl
-    other g h (Is k) e = let i = known_inv b k e in rw (writable_kind k (λ z. g (i ∙ z)) (λ z. h (i ∙ z)))
+    other : (b ≡ 3 → ⊥) → (b ≡ 5 → ⊥) → (o : Option Kind) → known b ≡ o → frame_kind f o s ≡ kind_by f o s
+    other g h None e = refl
+    other g h (Some k) e = let i = known_inv b k e in rw (writable_kind k (λ z. g (i ∙ z)) (λ z. h (i ∙ z)))
 
-    go : (x : Bool) → eqb b 3 ≡ x → (y : Bool) → eqb b 5 ≡ y → frame_kind f (known b) s ≡ kind_by f (cond x Unknown (cond y Unknown (known b))) s
+    go : (x : Bool) → eqb b 3 ≡ x → (y : Bool) → eqb b 5 ≡ y → frame_kind f (known b) s ≡ kind_by f (cond x None (cond y None (known b))) s
     go true e y i = let z = eqb-true b 3 e in rw z
     go false e true i = let z = eqb-true b 5 i in rw z
     go false e false i = other (eqb-false b 3 e) (eqb-false b 5 i) (known b) refl
@@ -135,9 +134,9 @@ front_got named used (b ∷ s) w {x} {q} h =
     let y : u ≡ q = cc in
     rw (z, ← y) (at k r (kind_got k r (known b) refl e) named n u e₁)
   where
-    kind_got : (k : Kind) (r : List ℕ) (o : Known) → known b ≡ o → frame_kind (b ∷ s) o s ≡ framed k r → (b ≡ id k) × (s ≡ r) × (is_writable (payload k) ≡ true)
-    kind_got k r Unknown e h = never h
-    kind_got k r (Is l) e h = go (is_writable (payload l)) refl h
+    kind_got : (k : Kind) (r : List ℕ) (o : Option Kind) → known b ≡ o → frame_kind (b ∷ s) o s ≡ framed k r → (b ≡ id k) × (s ≡ r) × (is_writable (payload k) ≡ true)
+    kind_got k r None e h = never h
+    kind_got k r (Some l) e h = go (is_writable (payload l)) refl h
       where
         go : (t : Bool) → is_writable (payload l) ≡ t → cond t (framed l s) (refused BadFrame (b ∷ s)) ≡ framed k r
             → (b ≡ id k) × (s ≡ r) × (is_writable (payload k) ≡ true)
@@ -159,7 +158,7 @@ front_got named used (b ∷ s) w {x} {q} h =
 abbrev pub with_name : {A : Type 0} → List ℕ → Frames A → Frames (List ℕ × A)
 with_name n o = next o λ t u. framed (n, t) u
 
-pub frame_front_law : {A : Type 0} (p : FrameReader A) (names : Option (List (List ℕ))) (s : List ℕ) → 0 < length s
+pub frame_front_law : {A : Type 0} (p : FrameReader A) (names : Optional (List (List ℕ))) (s : List ℕ) → 0 < length s
     → frame p names s ≡ next (frame_front names s) λ x q. with_name x.0 (frame_payload p s (payload x.1) q)
 frame_front_law p names [] h = absurd (omega arith)
 frame_front_law p names (b ∷ s) h = go (frame_kind (b ∷ s) (known b) s)
@@ -184,14 +183,14 @@ rests_next : {A B : Type 0} (f : List ℕ) (o : Frames A) (g : A → List ℕ �
 rests_next f (refused n r) g h c = h
 rests_next f (framed a q) g h c = c a q
 
-pub front_rests : (u : Option (List (List ℕ))) (s : List ℕ) → 0 < length s → Rests s (frame_front u s)
+pub front_rests : (u : Optional (List (List ℕ))) (s : List ℕ) → 0 < length s → Rests s (frame_front u s)
 front_rests u [] h = absurd (omega arith)
 front_rests u (b ∷ s) h =
     rests_next (b ∷ s) (frame_kind (b ∷ s) (known b) s) _ (kind_rests (known b)) λ k r. rests_next (b ∷ s) (frame_name (b ∷ s) u r) _ (name_rests u r) λ n q. tt
   where
-    kind_rests : (o : Known) → Rests (b ∷ s) (frame_kind (b ∷ s) o s)
-    kind_rests Unknown = refl
-    kind_rests (Is k) = go (is_writable (payload k))
+    kind_rests : (o : Option Kind) → Rests (b ∷ s) (frame_kind (b ∷ s) o s)
+    kind_rests None = refl
+    kind_rests (Some k) = go (is_writable (payload k))
       where
         go : (t : Bool) → Rests (b ∷ s) (cond t (framed k s) (refused BadFrame (b ∷ s)))
         go true = tt
@@ -209,7 +208,7 @@ front_rests u (b ∷ s) h =
         go false false false true = refl
         go false false false false = tt
 
-    name_rests : (u : Option (List (List ℕ))) (r : List ℕ) → Rests (b ∷ s) (frame_name (b ∷ s) u r)
+    name_rests : (u : Optional (List (List ℕ))) (r : List ℕ) → Rests (b ∷ s) (frame_name (b ∷ s) u r)
     name_rests none r = tt
     name_rests (some used) r = found_rests used (read_name r)
 

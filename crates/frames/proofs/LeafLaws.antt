@@ -1,5 +1,6 @@
 -- A leaf that stands in a list: its encoding is what stands there, but for a Float64 that Float32 holds.
-use Prim.Native.Nat.{ℕ, ◌+◌, ◌-◌, ◌≤◌}
+use Rattle.std.specs.Prelude.{Some}
+use Prim.Native.Nat.{ℕ, ◌≤◌}
 use mathlib.Core.Path.{◌≡◌, refl, sym, ap, ◌∙◌}
 use mathlib.Core.Bool.{Bool, true, false, cond}
 use mathlib.Core.List.{List, [], ◌++◌}
@@ -15,7 +16,6 @@ use Rattle.float.specs.Width.{is_nan64, narrow}
 use Rattle.float.proofs.Laws.{holds_nan}
 use Rattle.format.specs.declared.Kind.{Kind}
 use Rattle.format.specs.declared.Kind.TheVariants.{Float32, Float64}
-use Rattle.format.specs.declared.Known.TheVariants.{Is}
 use Rattle.format.specs.declared.Stop.TheVariants.{Early}
 use Rattle.format.specs.Kinds.{id, known}
 use Rattle.format.specs.declared.Flaw.{Flaw}
@@ -97,7 +97,7 @@ double_got s w {v} {fs} {r} h = go (ltb (length s) 8) refl h
 
 pub kind_double : (k : Kind) → id k ≡ 11 → k ≡ Float64
 unfolding known
-kind_double k e = let z : known 11 ≡ Is k = rw e at (known_rt k) in cc
+kind_double k e = let z : known 11 ≡ Some k = rw e at (known_rt k) in cc
 
 module _ (k : Kind) (p : List ℕ → Out Leaf) (e : payload k ≡ leaf p) (s : List ℕ) (w : Bytes s) {v : Leaf} {fs : List Flaw} {r : List ℕ}
     (h : p s ≡ got v fs r) where

@@ -1,3 +1,4 @@
+pub mod RefusedLaws
 pub mod PinnedWrites
 pub mod Flaws
 pub mod PlaceLaws

@@ -1,7 +1,8 @@
 -- Every refusal's number and place, and each order of two, by write lists whose outcomes are computed; what a refusal and a success leave; and runs of the
 -- program, of which the longest lists are in crates/demands/proofs/Lent.antt (document 01, "The write list"). The answers are 01's, and
 -- for the byte that fields share 02's (M-102). Exchanging two numbers or two orders in the definitions is refused here.
-use Prim.Native.Nat.{ℕ, ◌+◌}
+use Rattle.std.specs.Prelude.{Ok}
+use Prim.Native.Nat.{ℕ}
 use mathlib.Core.Path.{◌≡◌, refl}
 use mathlib.Core.List.{List, [], ◌∷◌, ◌++◌, map}
 use lib.ListN.{length, replicate}
@@ -13,14 +14,13 @@ use Rattle.float.specs.Rule.{holds}
 use Rattle.float.specs.Width.{widen, narrow}
 use lib.Ieee.{of_bits, to_bits, nan_bits}
 use Rattle.frames.specs.declared.Refusal.TheVariants.{BadFrame}
-use Rattle.frames.specs.declared.Written.TheVariants.{Done, Refused}
 use Rattle.format.specs.Kinds.{known, is_bare, is_uniform, is_uniform_array}
 use Rattle.format.specs.Parse.{read_var_uint, fixed}
 use Rattle.format.specs.Names.{is_empty, twins}
 use Rattle.format.specs.Payload.{payload}
 use Rattle.format.specs.Encoding.{encoding}
 use Rattle.frames.specs.WriteList.{read_frames, read_list}
-use Rattle.frames.specs.Writer.{refusal_number, Outcome, refuse, wrote, outcome, Result, written}
+use Rattle.frames.specs.Writer.{refusal_number, Outcome, refuse, wrote, outcome, Afterwards, written, refused_at}
 use Rattle.frames.specs.Program.{bytes_typed, program}
 
 -- a refusal's number and place; or 0, the encoding's length and the sizes of its containers
@@ -121,7 +121,7 @@ pub record Write : Type 0 where
   pub list : List ℕ
   pub output : List ℕ
   pub work : List ℕ
-  pub result : Result
+  pub result : Afterwards
 
 abbrev written_of : Write → Write
 written_of x = record { list = x.list; output = x.output; work = x.work; result = written x.list x.output x.work }
@@ -129,45 +129,45 @@ written_of x = record { list = x.list; output = x.output; work = x.work; result 
 abbrev pub writes : List Write
 writes =
     -- the bytes behind the encoding stay; work numbers are the sizes, and zero behind them
-    record { list = of 2 0x0805; output = of 3 0x090909; work = 7 ∷ []; result = record { answer = Done 2; output = of 3 0x080509; work = 0 ∷ [] } }
+    record { list = of 2 0x0805; output = of 3 0x090909; work = 7 ∷ []; result = record { answer = Ok 2; output = of 3 0x080509; work = 0 ∷ [] } }
     ∷ record {
       list = of 4 0x04040000;
       output = times 7 0x09;
       work = 7 ∷ 7 ∷ 7 ∷ [];
-      result = record { answer = Done 6; output = of 7 0x05040104010009; work = 4 ∷ 1 ∷ 0 ∷ [] };
+      result = record { answer = Ok 6; output = of 7 0x05040104010009; work = 4 ∷ 1 ∷ 0 ∷ [] };
     }
     -- a refusal leaves the output, and zeroes all work numbers
     ∷ record {
       list = of 2 0x0415;
       output = of 3 0x090909;
       work = 7 ∷ 7 ∷ [];
-      result = record { answer = Refused BadFrame 1; output = of 3 0x090909; work = 0 ∷ 0 ∷ [] };
+      result = record { answer = refused_at BadFrame 1; output = of 3 0x090909; work = 0 ∷ 0 ∷ [] };
     }
     -- IDs are settled first: 1.0 as a Float64 and as a Float32 make a uniform array
     ∷ record {
       list = 0x04 ∷ (of 9 0x0b3ff0000000000000 ++ of 6 0x0a3f80000000);
       output = times 12 0x09;
       work = 7 ∷ [];
-      result = record { answer = Done 12; output = of 12 0x050a020a3f8000003f800000; work = 10 ∷ [] };
+      result = record { answer = Ok 12; output = of 12 0x050a020a3f8000003f800000; work = 10 ∷ [] };
     }
     -- M-102: shared bytes of objects have 80 hex, of arrays none. 01's nested case; an array of two objects; an object of an array
     ∷ record {
       list = of 14 0x020205696e6e65720801780a0000;
       output = times 15 0x09;
       work = 7 ∷ 7 ∷ 7 ∷ [];
-      result = record { answer = Done 14; output = of 15 0x030c8305696e6e6572048801780a09; work = 12 ∷ 4 ∷ 0 ∷ [] };
+      result = record { answer = Ok 14; output = of 15 0x030c8305696e6e6572048801780a09; work = 12 ∷ 4 ∷ 0 ∷ [] };
     }
     ∷ record {
       list = of 12 0x040201016100020101610000;
       output = times 12 0x09;
       work = 7 ∷ 7 ∷ 7 ∷ [];
-      result = record { answer = Done 12; output = of 12 0x050a02030381016103810161; work = 10 ∷ 3 ∷ 3 ∷ [] };
+      result = record { answer = Ok 12; output = of 12 0x050a02030381016103810161; work = 10 ∷ 3 ∷ 3 ∷ [] };
     }
     ∷ record {
       list = of 8 0x0204016108050000;
       output = times 9 0x09;
       work = 7 ∷ 7 ∷ [];
-      result = record { answer = Done 9; output = of 9 0x030785016103010805; work = 7 ∷ 3 ∷ [] };
+      result = record { answer = Ok 9; output = of 9 0x030785016103010805; work = 7 ∷ 3 ∷ [] };
     }
     ∷ []
 

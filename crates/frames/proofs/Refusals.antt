@@ -1,17 +1,16 @@
 -- Frames at every depth: what was read reads the same whatever stands behind it; a refusal is because the list ends, or at the first byte of a frame; and the
 -- bound on the frames in a container is large enough.
+use Rattle.std.specs.Prelude.{Option, None, Some}
 use Prim.Native.Nat.{ℕ, zero, suc, ◌+◌, ◌≤◌}
 use native.Mathlib.Omega.{arith}
 use mathlib.Core.Path.{◌≡◌, refl, sym, ap, ◌∙◌}
 use mathlib.Core.Logic.{◌⊎◌, inl, inr}
 use mathlib.Core.Bool.{Bool, true, false, cond}
-use mathlib.Core.Option.{Option}
+use mathlib.Core.Option.{Option as Optional}
 use mathlib.Core.List.{List, [], ◌∷◌, ◌++◌, append_assoc}
 use lib.ListN.{length, length-append}
 use lib.Dec.{eqb}
 use Rattle.format.specs.declared.Kind.{Kind}
-use Rattle.format.specs.declared.Known.{Known}
-use Rattle.format.specs.declared.Known.TheVariants.{Unknown, Is}
 use Rattle.frames.specs.declared.Refusal.{Refusal}
 use Rattle.frames.specs.declared.Refusal.TheVariants.{ListEnds, BadFrame, TooDeep}
 use Rattle.format.specs.Kinds.{known}
@@ -24,26 +23,26 @@ use Rattle.frames.proofs.FrameParts.{carried, name_got, name_refused, payload_go
 
 -- ---- a frame
 
-pub kind_got : (f : List ℕ) (o : Known) (s : List ℕ) {k : Kind} {r : List ℕ} → frame_kind f o s ≡ framed k r
+pub kind_got : (f : List ℕ) (o : Option Kind) (s : List ℕ) {k : Kind} {r : List ℕ} → frame_kind f o s ≡ framed k r
     → (s ≡ r) × ((f' q : List ℕ) → frame_kind f' o q ≡ framed k q)
-kind_got f Unknown s h = never h
-kind_got f (Is j) s {k} {r} h = go (is_writable (payload j)) h
+kind_got f None s h = never h
+kind_got f (Some j) s {k} {r} h = go (is_writable (payload j)) h
   where
     go : (b : Bool) → cond b (framed j s) (refused BadFrame f) ≡ framed k r
         → (s ≡ r) × ((f' q : List ℕ) → cond b (framed j q) (refused BadFrame f') ≡ framed k q)
     go true h = let z : j ≡ k = cc in (cc, λ f' q. rw z)
     go false h = never h
 
-pub kind_refused : (f : List ℕ) (o : Known) (s : List ℕ) (n : Refusal) (r : List ℕ) → frame_kind f o s ≡ refused n r → OfFrame n × (f ≡ r)
-kind_refused f Unknown s n r h = carried BadFrame tt h
-kind_refused f (Is j) s n r h = go (is_writable (payload j)) h
+pub kind_refused : (f : List ℕ) (o : Option Kind) (s : List ℕ) (n : Refusal) (r : List ℕ) → frame_kind f o s ≡ refused n r → OfFrame n × (f ≡ r)
+kind_refused f None s n r h = carried BadFrame tt h
+kind_refused f (Some j) s n r h = go (is_writable (payload j)) h
   where
     go : (b : Bool) → cond b (framed j s) (refused BadFrame f) ≡ refused n r → OfFrame n × (f ≡ r)
     go true h = never (sym h)
     go false h = carried BadFrame tt h
 
-module _ {A : Type 0} (p : FrameReader A) (loc : (names : Option (List (List ℕ))) → LocalFrames (p names)) where
-  frame_local : (names : Option (List (List ℕ))) → LocalFrames (frame p names)
+module _ {A : Type 0} (p : FrameReader A) (loc : (names : Optional (List (List ℕ))) → LocalFrames (p names)) where
+  frame_local : (names : Optional (List (List ℕ))) → LocalFrames (frame p names)
   frame_local names [] x r h = never h
   frame_local names (b ∷ s) x r h =
       next_got (frame_kind (b ∷ s) (known b) s) _ h λ k u i h₁. next_got (frame_name (b ∷ s) names u) _ h₁ λ n q j h₂.
@@ -65,8 +64,8 @@ module _ {A : Type 0} (p : FrameReader A) (loc : (names : Option (List (List ℕ
         ),
       )
 
-  module _ (ref : (names : Option (List (List ℕ))) → Judges (p names)) where
-    frame_judges : (names : Option (List (List ℕ))) → Judges (frame p names)
+  module _ (ref : (names : Optional (List (List ℕ))) → Judges (p names)) where
+    frame_judges : (names : Optional (List (List ℕ))) → Judges (frame p names)
     frame_judges names [] n r l h = absurd (omega arith)
     frame_judges names (b ∷ s) n r l h =
         next_refused (frame_kind (b ∷ s) (known b) s) _ h
@@ -94,12 +93,12 @@ module _ {A : Type 0} (p : FrameReader A) (loc : (names : Option (List (List ℕ
               ends = λ _. rw (a.1 (b ∷ (c.0 ++ w)) (c.0 ++ w), c.2 (b ∷ (c.0 ++ w)) w, e.1.3 (b ∷ (c.0 ++ w)));
             })
 
-pub frames_local : (d : ℕ) (names : Option (List (List ℕ))) → LocalFrames (read_frames d names)
+pub frames_local : (d : ℕ) (names : Optional (List (List ℕ))) → LocalFrames (read_frames d names)
 unfolding read_frames
 frames_local zero names s x r h = never h
 frames_local (suc d) names s x r h = frame_local (read_frames d) (frames_local d) names s x r h
 
-pub frames_judge : (d : ℕ) (names : Option (List (List ℕ))) → Judges (read_frames d names)
+pub frames_judge : (d : ℕ) (names : Optional (List (List ℕ))) → Judges (read_frames d names)
 unfolding read_frames
 frames_judge zero names s n r l h = let c = carried TooDeep tt h in here (read_frames zero names) s n r c.0 l c.1
 frames_judge (suc d) names s n r l h = frame_judges (read_frames d) (frames_local d) (frames_judge d) names s n r l h
@@ -127,6 +126,6 @@ until_more {A} p loc (suc m) (suc n) used (b ∷ s) h k = ap (λ o. cond (eqb b 
         ap (λ o. next o λ xs q. framed (x ∷ xs) q) (ih (x.0 ∷ used) r (omega (arith, w.2)) (omega (arith, w.2)))
 
 -- with the names before a frame in an object, and with none in an array
-pub frames_enough : (d : ℕ) (names : List (List ℕ) → Option (List (List ℕ))) (n : ℕ) (used : List (List ℕ)) (s : List ℕ) → length s ≤ n
+pub frames_enough : (d : ℕ) (names : List (List ℕ) → Optional (List (List ℕ))) (n : ℕ) (used : List (List ℕ)) (s : List ℕ) → length s ≤ n
     → until_close (λ u. read_frames d (names u)) n used s ≡ until_close (λ u. read_frames d (names u)) (length s) used s
 frames_enough d names n used s h = until_more (λ u. read_frames d (names u)) (λ u. frames_local d (names u)) (length s) n used s (omega arith) h

@@ -1,4 +1,5 @@
 -- Where a refused list is refused: at its end, at the first byte of its first faulty frame, or at 0. What `Placed` says, specs/Refused.antt has.
+use Rattle.std.specs.Prelude.{Ok}
 use Prim.Native.Nat.{ℕ, ◌+◌, ◌-◌, ◌≤◌}
 use native.Mathlib.Omega.{arith}
 use mathlib.Core.Path.{◌≡◌, refl, sym, ap, ◌∙◌, subst}
@@ -14,16 +15,16 @@ use Rattle.number.proofs.Clash.{clash}
 use Rattle.frames.specs.declared.Refusal.{Refusal}
 use Rattle.frames.specs.declared.Refusal.TheVariants.{ListEnds, BadFrame, EmptyName, NameUsed, NotText, TooDeep, NoneOpen, Complete, ListTooLong}
 use Rattle.frames.specs.declared.Refusal.TheVariants.{FewWorkNumbers, EncodingTooLong}
-use Rattle.frames.specs.declared.Written.TheVariants.{Done, Refused}
 use Rattle.format.specs.Limits.{depth_limit, length_limit}
 use Rattle.format.specs.Tree.{Tree}
 use Rattle.format.specs.Encoding.{encoding, sizes_of}
 use Rattle.frames.specs.WriteList.{Frames, refused, framed, next, read_frames, only, read_list}
-use Rattle.frames.specs.Writer.{refuse, wrote, outcome, outcome_after, result_of, written}
+use Rattle.frames.specs.Writer.{refuse, wrote, outcome, outcome_after, result_of, written, refused_at}
 use Rattle.format.proofs.Lists.{append_nil}
 use Rattle.frames.specs.Refused.{AtFrame, BehindTop, Placed}
 use Rattle.frames.proofs.FrontLaws.{never}
 use Rattle.frames.proofs.FramesLocal.{next_refused, OfFrame, Verdict}
+use Rattle.frames.proofs.RefusedLaws.{refused_same}
 use Rattle.frames.proofs.Refusals.{frames_local, frames_judge}
 
 -- ---- the whole list
@@ -102,12 +103,12 @@ list_left d (b ∷ s) n r h = go (eqb b 0) refl h
 
 -- ---- and written
 
-no_refusal : {X : Type 0} {r : Refusal} {p n : ℕ} → Done n ≡ Refused r p → X
+no_refusal : {X : Type 0} {r : Refusal} {p n : ℕ} → Ok n ≡ refused_at r p → X
 no_refusal h = clash cc
 
 module _ (list output work : List ℕ) where
   cut_answer : (w : List ℕ) → length w ≤ length_limit → read_list depth_limit w ≡ refused ListEnds []
-      → (written w output work).answer ≡ Refused ListEnds (length w)
+      → (written w output work).answer ≡ refused_at ListEnds (length w)
   unfolding written outcome
   cut_answer w l e =
       let z : length w - 0 ≡ length w = omega arith in
@@ -118,7 +119,7 @@ module _ (list output work : List ℕ) where
   at_frame p w r m e l i f =
       let n : length list ≡ length w + length r = ap length e ∙ length-append w r in
       let t : take p list ≡ w = rw e (take_at w r p i) in
-      (omega arith, rw t (cut_answer w (omega arith) f ∙ ap (Refused ListEnds) i))
+      (omega arith, rw t (cut_answer w (omega arith) f ∙ ap (refused_at ListEnds) i))
 
   behind_top : (p : ℕ) (w r : List ℕ) → list ≡ w ++ r → 1 ≤ length r → length w ≡ p
       → (t : Tree depth_limit) × (read_list depth_limit w ≡ framed t []) → BehindTop p list
@@ -155,24 +156,23 @@ module _ (list output work : List ℕ) where
       by EncodingTooLong f = absurd f
 
   -- a refusal and its place, as they are answered
-  told : (n : Refusal) (q : ℕ) (r : Refusal) (p : ℕ) → Refused n q ≡ Refused r p → Placed n q list output work → Placed r p list output work
+  told : (n : Refusal) (q : ℕ) (r : Refusal) (p : ℕ) → refused_at {A = ℕ} n q ≡ refused_at r p → Placed n q list output work → Placed r p list output work
   told n q r p h i =
-      let x : n ≡ r = cc in
-      let y : q ≡ p = cc in
-      subst (λ m. Placed m p list output work) x (subst (λ m. Placed n m list output work) y i)
+      let e = refused_same h in
+      subst (λ m. Placed m p list output work) e.0 (subst (λ m. Placed n m list output work) e.1 i)
 
-  pub refusal_placed : (r : Refusal) (p : ℕ) → (written list output work).answer ≡ Refused r p → Placed r p list output work
+  pub refusal_placed : (r : Refusal) (p : ℕ) → (written list output work).answer ≡ refused_at r p → Placed r p list output work
   unfolding written outcome
   refusal_placed r p h = short (ltb length_limit (length list)) refl h
     where
       fits : (few small : Bool) (e z : List ℕ) → (result_of (cond few (refuse FewWorkNumbers 0) (cond small (refuse EncodingTooLong 0) (wrote e z))) output
-          work).answer ≡ Refused r p → Placed r p list output work
+          work).answer ≡ refused_at r p → Placed r p list output work
       fits true small e z h = told FewWorkNumbers 0 r p h refl
       fits false true e z h = told EncodingTooLong 0 r p h refl
       fits false false e z h = no_refusal h
 
       read : (f : Frames (Tree depth_limit)) → read_list depth_limit list ≡ f → length list ≤ length_limit
-          → (result_of (outcome_after depth_limit (length output) (length work) list f) output work).answer ≡ Refused r p → Placed r p list output work
+          → (result_of (outcome_after depth_limit (length output) (length work) list f) output work).answer ≡ refused_at r p → Placed r p list output work
       read (refused n q) e l h = told n (length list - length q) r p h (placed_left n q l (list_left depth_limit list n q e))
       read (framed t q) e l h =
           fits (ltb (length work) (length (sizes_of depth_limit t))) (ltb (length output) (length (encoding depth_limit t))
@@ -180,6 +180,6 @@ module _ (list output work : List ℕ) where
 
       short : (b : Bool) → ltb length_limit (length list) ≡ b
           → (result_of (cond b (refuse ListTooLong 0) (outcome_after depth_limit (length output) (length work) list (read_list depth_limit list))) output
-          work).answer ≡ Refused r p → Placed r p list output work
+          work).answer ≡ refused_at r p → Placed r p list output work
       short true e h = told ListTooLong 0 r p h refl
       short false e h = read (read_list depth_limit list) refl (ltb-false length_limit (length list) e) h

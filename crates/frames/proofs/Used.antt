@@ -1,9 +1,9 @@
 -- What a field of the list uses up: a part of it, which bounds what the field takes as encoded, and how many containers it has.
+use Rattle.std.specs.Prelude.{Some}
 use Prim.Native.Nat.{ℕ, zero, suc, ◌+◌, ◌*◌, ◌≤◌}
 use native.Mathlib.Omega.{arith}
 use mathlib.Core.Path.{◌≡◌, refl, sym, ap, ◌∙◌}
 use mathlib.Core.Bool.{Bool, true, false, ◌||◌, cond}
-use mathlib.Core.Option.{some}
 use mathlib.Core.List.{List, [], ◌∷◌, ◌++◌, append_assoc}
 use lib.ListN.{length, take, length-append, take-append-drop}
 use lib.Seq.{length-take-le}
@@ -18,7 +18,6 @@ use Rattle.format.specs.declared.Kind.{Kind}
 use Rattle.format.specs.declared.Kind.TheVariants.{Null, Object, UniformObject, Array, UniformArray, Binary, String, IntegerPositive, IntegerNegative}
 use Rattle.format.specs.declared.Kind.TheVariants.{Float32, Float64, False, True, ObjectAttachment, BinaryAttachment, Hash, Uuid, DateTime, TimeSpan}
 use Rattle.format.specs.declared.Kind.TheVariants.{ObjectId, CustomById, CustomByName}
-use Rattle.format.specs.declared.Known.TheVariants.{Is}
 use Rattle.frames.specs.declared.Refusal.TheVariants.{BadFrame, NotText}
 use Rattle.format.specs.Kinds.{id, known}
 use Rattle.format.specs.Mask.{has}
@@ -70,11 +69,11 @@ leaf_short k p e f s w {v} {r} h = leaf_found_law f (p s) h λ fs y a b c. leaf_
 
 pub kind_object : (k : Kind) → id k ≡ 2 → k ≡ Object
 unfolding known
-kind_object k e = let z : known 2 ≡ Is k = rw e at (known_rt k) in cc
+kind_object k e = let z : known 2 ≡ Some k = rw e at (known_rt k) in cc
 
 pub kind_array : (k : Kind) → id k ≡ 4 → k ≡ Array
 unfolding known
-kind_array k e = let z : known 4 ≡ Is k = rw e at (known_rt k) in cc
+kind_array k e = let z : known 4 ≡ Some k = rw e at (known_rt k) in cc
 
 -- ---- a field
 

@@ -1,4 +1,5 @@
 -- Every tree within the limits is written, given a list within the limit and the buffers; and from the output the tree is known.
+use Rattle.std.specs.Prelude.{Ok}
 use Prim.Native.Nat.{ℕ, zero, suc, ◌+◌, ◌*◌, ◌≤◌, ◌<◌}
 use native.Mathlib.Omega.{arith}
 use mathlib.Core.Path.{◌≡◌, sym, ap, ◌∙◌}
@@ -8,7 +9,6 @@ use borrow.Author.Tests.{le-ltb}
 use Rattle.number.specs.BigEndian.{All, Bytes}
 use Rattle.format.specs.declared.Form.TheVariants.{Top}
 use Rattle.format.specs.declared.Kind.{Kind}
-use Rattle.frames.specs.declared.Written.TheVariants.{Done}
 use Rattle.format.specs.Limits.{depth_limit, length_limit}
 use Rattle.format.specs.Kinds.{id}
 use Rattle.format.specs.Parse.{Out, got}
@@ -16,7 +16,7 @@ use Rattle.format.specs.Reader.{Standing, Named, Layout, tree, read}
 use Rattle.format.specs.Tree.{Leaf, string, atom, array, object, Tree, LeafWithin, NameWithin, NodeWithin, Within}
 use Rattle.format.specs.Encoding.{with_size, concat, leaf_kind, leaf_payload, kind_of, encoding, sizes_of, WithinLimits}
 use Rattle.frames.specs.WriteList.{framed, read_list}
-use Rattle.frames.specs.Writer.{wrote, outcome, Result, result_of, written}
+use Rattle.frames.specs.Writer.{wrote, outcome, Afterwards, result_of, written}
 use Rattle.format.proofs.BytesOf.{bytes_of_encoding}
 use Rattle.format.proofs.Spelling.{reading_gives_back}
 use Rattle.frames.specs.Describe.{close, node_frames, frames_of, list_of}
@@ -27,7 +27,7 @@ use Rattle.frames.proofs.ListLength.{list_length}
 -- ---- written
 
 -- the encoding, and the sizes of the containers
-abbrev pub success : Tree depth_limit → List ℕ → List ℕ → Result
+abbrev pub success : Tree depth_limit → List ℕ → List ℕ → Afterwards
 success t output work = result_of (wrote (encoding depth_limit t) (sizes_of depth_limit t)) output work
 
 -- A list that describes a tree within the limits is written, where it is no longer than 65,536 bytes and the buffers are large enough
@@ -74,7 +74,7 @@ outputs_apart t u v w a b e =
 
 -- two successes that leave the same output were given lists of the same tree
 pub same_output_same_tree : (list list' output output' work work' : List ℕ) (n n' : ℕ) → Bytes list → Bytes list'
-    → (written list output work).answer ≡ Done n → (written list' output' work').answer ≡ Done n'
+    → (written list output work).answer ≡ Ok n → (written list' output' work').answer ≡ Ok n'
     → (written list output work).output ≡ (written list' output' work').output
     → read_list depth_limit list ≡ read_list depth_limit list'
 same_output_same_tree list list' output output' work work' n n' w w' h h' e =

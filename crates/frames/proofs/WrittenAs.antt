@@ -1,20 +1,20 @@
 -- A list that describes a tree is written wherever it fits, as the encoding and the sizes say: in each of the three results.
+use Rattle.std.specs.Prelude.{Ok}
 use Prim.Native.Nat.{ℕ, ◌-◌, ◌≤◌}
 use mathlib.Core.Path.{◌≡◌, ap}
 use mathlib.Core.List.{List, [], ◌++◌}
 use lib.ListN.{length, drop}
 use borrow.Author.Tests.{le-ltb}
-use Rattle.frames.specs.declared.Written.TheVariants.{Done}
 use Rattle.format.specs.Limits.{depth_limit, length_limit}
 use Rattle.format.specs.Tree.{Tree}
 use Rattle.format.specs.Encoding.{encoding, sizes_of}
 use Rattle.frames.specs.WriteList.{framed, read_list}
-use Rattle.frames.specs.Writer.{wrote, outcome, Result, zeros, result_of, written}
+use Rattle.frames.specs.Writer.{wrote, outcome, Afterwards, zeros, result_of, written}
 
 -- what is written of a list that describes t: the answer is the encoding's length; the output begins with the encoding, and is untouched past it; the work
 -- numbers begin with the sizes of the containers, in order of opening, and are zero past them
-pub record WrittenAs (t : Tree depth_limit) (output work : List ℕ) (result : Result) : Type 0 where
-  pub answer_is : result.answer ≡ Done (length (encoding depth_limit t))
+pub record WrittenAs (t : Tree depth_limit) (output work : List ℕ) (result : Afterwards) : Type 0 where
+  pub answer_is : result.answer ≡ Ok (length (encoding depth_limit t))
   pub output_is : result.output ≡ encoding depth_limit t ++ drop (length (encoding depth_limit t)) output
   pub work_is : result.work ≡ sizes_of depth_limit t ++ zeros (length work - length (sizes_of depth_limit t))
 

@@ -1,10 +1,8 @@
 -- A frame in pieces: what stands before its payload, a leaf, and what a container holds. Nothing here has to be believed: proofs/FrontLaws.antt shows that it
 -- is the write list's frame.
-use Rattle.std.specs.Prelude.{ℕ, Bool, true, false, cond, List, [], ◌∷◌, length, eqb}
-use Rattle.std.proofs.Math.Option.{Option, none, some}
+use Rattle.std.specs.Prelude.{ℕ, Bool, true, false, cond, List, [], ◌∷◌, length, eqb, Option, None, Some}
+use Rattle.std.proofs.Math.Option.{Option as Optional, none, some}
 use Rattle.format.specs.declared.Kind.{Kind}
-use Rattle.format.specs.declared.Known.{Known}
-use Rattle.format.specs.declared.Known.TheVariants.{Unknown, Is}
 use Rattle.frames.specs.declared.Refusal.TheVariants.{BadFrame}
 use Rattle.format.specs.Kinds.{known}
 use Rattle.format.specs.Names.{read_name}
@@ -16,15 +14,15 @@ use Rattle.frames.specs.Container.{node_of}
 -- ---- a frame up to its payload
 
 -- 03 and 05 are no writable kinds
-unfoldable pub writable : ℕ → Known
-writable b = cond (eqb b 3) Unknown (cond (eqb b 5) Unknown (known b))
+unfoldable pub writable : ℕ → Option Kind
+writable b = cond (eqb b 3) None (cond (eqb b 5) None (known b))
 
 -- inside an object a frame has a name
-abbrev pub mode_of : Bool → List (List ℕ) → Option (List (List ℕ))
+abbrev pub mode_of : Bool → List (List ℕ) → Optional (List (List ℕ))
 mode_of true used = some used
 mode_of false used = none
 
-abbrev pub frame_front : Option (List (List ℕ)) → List ℕ → Frames (List ℕ × Kind)
+abbrev pub frame_front : Optional (List (List ℕ)) → List ℕ → Frames (List ℕ × Kind)
 frame_front names [] = refused BadFrame []
 frame_front names (b ∷ s) = next (frame_kind (b ∷ s) (known b) s) λ k r. next (frame_name (b ∷ s) names r) λ n q. framed (n, k) q
 
@@ -48,9 +46,9 @@ IsLeaf shared_fields = ⊥
 IsLeaf items = ⊥
 IsLeaf shared_items = ⊥
 
-abbrev pub leaf_known : Known → List ℕ → Frames Leaf
-leaf_known Unknown s = refused BadFrame s
-leaf_known (Is k) s = leaf_by (payload k) s
+abbrev pub leaf_known : Option Kind → List ℕ → Frames Leaf
+leaf_known None s = refused BadFrame s
+leaf_known (Some k) s = leaf_by (payload k) s
 
 -- the leaf of this kind
 unfoldable pub leaf_of : ℕ → List ℕ → Frames Leaf

@@ -3,16 +3,15 @@ use Rattle.std.specs.Prelude.{ℕ, ◌<◌, ◌≡◌, List, [], length, take}
 use Rattle.frames.specs.declared.Refusal.{Refusal}
 use Rattle.frames.specs.declared.Refusal.TheVariants.{ListEnds, BadFrame, EmptyName, NameUsed, NotText, TooDeep, NoneOpen, Complete, ListTooLong}
 use Rattle.frames.specs.declared.Refusal.TheVariants.{FewWorkNumbers, EncodingTooLong}
-use Rattle.frames.specs.declared.Written.TheVariants.{Refused}
 use Rattle.format.specs.Limits.{depth_limit}
 use Rattle.format.specs.Tree.{Tree}
 use Rattle.frames.specs.WriteList.{framed, read_list}
-use Rattle.frames.specs.Writer.{written}
+use Rattle.frames.specs.Writer.{written, refused_at}
 
 -- a frame begins at p, and no frame before it is faulty: the list cut there is refused with 1, at its end. (Cut inside a frame it would be refused at that
 -- frame, and never with 1.)
 abbrev pub AtFrame : ℕ → List ℕ → List ℕ → List ℕ → Type 0
-AtFrame p list output work = (p < length list) × ((written (take p list) output work).answer ≡ Refused ListEnds p)
+AtFrame p list output work = (p < length list) × ((written (take p list) output work).answer ≡ refused_at ListEnds p)
 
 -- there, but the top field is complete: the list cut there describes a tree
 abbrev pub BehindTop : ℕ → List ℕ → Type 0

@@ -1,11 +1,9 @@
 -- The write list: frames read to a tree, or the first faulty frame (document 01, "The write list"). A refusal carries what of the list is left
 -- from the faulty frame on.
-use Rattle.std.specs.Prelude.{ℕ, zero, suc, Bool, true, false, ◌||◌, cond, List, [], ◌∷◌, map, length, eqb}
-use Rattle.std.proofs.Math.Option.{Option, none, some}
+use Rattle.std.specs.Prelude.{ℕ, zero, suc, Bool, true, false, ◌||◌, cond, List, [], ◌∷◌, map, length, eqb, Option, None, Some}
+use Rattle.std.proofs.Math.Option.{Option as Optional, none, some}
 use Rattle.text.specs.Equal.{equal}
 use Rattle.format.specs.declared.Kind.{Kind}
-use Rattle.format.specs.declared.Known.{Known}
-use Rattle.format.specs.declared.Known.TheVariants.{Unknown, Is}
 use Rattle.frames.specs.declared.Refusal.{Refusal}
 use Rattle.frames.specs.declared.Refusal.TheVariants.{ListEnds, BadFrame, EmptyName, NameUsed, NotText, TooDeep, NoneOpen, Complete}
 use Rattle.format.specs.Kinds.{known, any}
@@ -34,9 +32,9 @@ is_writable shared_fields = false
 is_writable items = true
 is_writable shared_items = false
 
-abbrev pub frame_kind : List ℕ → Known → List ℕ → Frames Kind
-frame_kind f Unknown s = refused BadFrame f
-frame_kind f (Is k) s = cond (is_writable (payload k)) (framed k s) (refused BadFrame f)
+abbrev pub frame_kind : List ℕ → Option Kind → List ℕ → Frames Kind
+frame_kind f None s = refused BadFrame f
+frame_kind f (Some k) s = cond (is_writable (payload k)) (framed k s) (refused BadFrame f)
 
 -- a name read, behind the names that the object has: 2, 3, 5, 4
 abbrev pub name_found : List ℕ → List (List ℕ) → Out (List ℕ) → Frames (List ℕ)
@@ -49,7 +47,7 @@ name_found f used (got n fs r) =
     (framed n r))))
 
 -- inside an object a frame has a name
-abbrev pub frame_name : List ℕ → Option (List (List ℕ)) → List ℕ → Frames (List ℕ)
+abbrev pub frame_name : List ℕ → Optional (List (List ℕ)) → List ℕ → Frames (List ℕ)
 frame_name f none s = framed [] s
 frame_name f (some used) s = name_found f used (read_name s)
 
@@ -71,7 +69,7 @@ until_close p (suc n) used (b ∷ s) =
 
 -- ---- one layer: `p` reads the fields
 abbrev pub FrameReader : Type 0 → Type 0
-FrameReader A = Option (List (List ℕ)) → List ℕ → Frames (List ℕ × A)
+FrameReader A = Optional (List (List ℕ)) → List ℕ → Frames (List ℕ × A)
 
 abbrev pub frame_payload : {A : Type 0} → FrameReader A → List ℕ → Payload → List ℕ → Frames (Node A)
 frame_payload p f (leaf q) s = next (leaf_found f (q s)) λ v r. framed (atom v) r

@@ -1,10 +1,9 @@
 -- The writer's answer, and what the output and the work numbers hold afterwards (document 01, "The write list").
-use Rattle.std.specs.Prelude.{ℕ, ◌-◌, ◌||◌, cond, List, ◌++◌, length, drop, replicate, ltb}
+use Rattle.std.specs.Prelude.{ℕ, ◌-◌, ◌||◌, cond, List, ◌++◌, length, drop, replicate, ltb, Result, Ok, Err}
 use Rattle.frames.specs.declared.Refusal.{Refusal}
 use Rattle.frames.specs.declared.Refusal.TheVariants.{ListEnds, BadFrame, EmptyName, NameUsed, NotText, TooDeep, NoneOpen, Complete, ListTooLong}
 use Rattle.frames.specs.declared.Refusal.TheVariants.{FewWorkNumbers, EncodingTooLong}
-use Rattle.frames.specs.declared.Written.{Written}
-use Rattle.frames.specs.declared.Written.TheVariants.{Done, Refused}
+use Rattle.frames.specs.declared.Refused.{Refused}
 use Rattle.format.specs.Limits.{depth_limit, length_limit}
 use Rattle.format.specs.Tree.{Tree}
 use Rattle.format.specs.Encoding.{encoding, sizes_of}
@@ -42,9 +41,16 @@ outcome_after d room numbers list (framed t r) = outcome_of room numbers (encodi
 unfoldable pub outcome : ℕ → ℕ → List ℕ → Outcome
 outcome room numbers list = cond (ltb length_limit (length list)) (refuse ListTooLong 0) (outcome_after depth_limit room numbers list (read_list depth_limit list))
 
+-- a refusal and its place, alone and as an answer
+abbrev pub refusal_at : Refusal → ℕ → Refused
+refusal_at n p = record { refusal = n; place = p }
+
+abbrev pub refused_at : {A : Type 0} → Refusal → ℕ → Result A Refused
+refused_at n p = Err (refusal_at n p)
+
 -- the answer, and both buffers afterwards
-pub record Result : Type 0 where
-  pub answer : Written
+pub record Afterwards : Type 0 where
+  pub answer : Result ℕ Refused
   pub output : List ℕ
   pub work : List ℕ
 
@@ -52,9 +58,9 @@ abbrev pub zeros : ℕ → List ℕ
 zeros n = replicate n 0
 
 -- a refusal leaves the output and zeroes all work numbers; success leaves what is past the encoding, and zeroes the work numbers past the containers
-abbrev pub result_of : Outcome → List ℕ → List ℕ → Result
-result_of (refuse n p) output work = record { answer = Refused n p; output = output; work = zeros (length work) }
-result_of (wrote e z) output work = record { answer = Done (length e); output = e ++ drop (length e) output; work = z ++ zeros (length work - length z) }
+abbrev pub result_of : Outcome → List ℕ → List ℕ → Afterwards
+result_of (refuse n p) output work = record { answer = refused_at n p; output = output; work = zeros (length work) }
+result_of (wrote e z) output work = record { answer = Ok (length e); output = e ++ drop (length e) output; work = z ++ zeros (length work - length z) }
 
-unfoldable pub written : List ℕ → List ℕ → List ℕ → Result
+unfoldable pub written : List ℕ → List ℕ → List ℕ → Afterwards
 written list output work = result_of (outcome (length output) (length work) list) output work

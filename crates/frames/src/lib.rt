@@ -1,7 +1,7 @@
 #![tactic(auto)]
 // What the writer answers.
 ghost use Rattle.std.specs.Prelude.{◌≡◌};
-ghost use Rattle.frames.specs.Writer.{refusal_number};
+ghost use Rattle.frames.specs.Writer.{refusal_number, refusal_at};
 
 // Why the writer refuses ("The write list").
 #[derive(Clone, Copy)]
@@ -38,9 +38,21 @@ pub fn refusal_number(refusal: Refusal) -> u32
     }
 }
 
-// The writer's answer: the encoding's length; or a refusal and its place.
+// What the writer answers where it refuses: why, and the place in the list ("The write list").
 #[derive(Clone, Copy)]
-pub enum Written {
-    Done(usize),
-    Refused(Refusal, usize),
+pub struct Refused {
+    pub refusal: Refusal,
+    pub place: usize,
+}
+
+impl Refusal {
+    // This refusal, at a place.
+    pub fn at(self, place: usize) -> Refused
+        ensures { result ≡ refusal_at self place }
+    {
+        Refused {
+            refusal: self,
+            place,
+        }
+    }
 }

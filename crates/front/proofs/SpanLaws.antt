@@ -1,4 +1,5 @@
 -- A number, a size with the bytes that it counts, and text: what is answered of them.
+use Rattle.std.specs.Prelude.{Ok, Result, Err}
 use Prim.Native.Nat.{ℕ, ◌+◌, ◌-◌, ◌≤◌}
 use native.Mathlib.Omega.{arith}
 use mathlib.Core.Path.{◌≡◌, refl, sym, ◌∙◌}
@@ -16,8 +17,6 @@ use Rattle.format.specs.declared.Stop.{Stop}
 use Rattle.format.specs.declared.Stop.TheVariants.{Early}
 use Rattle.faults.specs.declared.Modes.{Modes}
 use Rattle.faults.specs.declared.Faults.{Faults}
-use Rattle.front.specs.declared.Span.{Span}
-use Rattle.front.specs.declared.Span.TheVariants as P
 use Rattle.format.specs.declared.Flaw.TheVariants.{Long, NotUtf8}
 use Rattle.format.specs.Parse.{Out, fault, got, raise, whole, read_var_uint, sized, rest}
 use Rattle.format.specs.Names.{read_text}
@@ -28,6 +27,8 @@ use Rattle.front.specs.Pieces.{span_at, text_of, text_at}
 use Rattle.faults.proofs.NotedLaws.{noted_none}
 use Rattle.front.proofs.AnswerLaws.{answer_raise, answer_bind}
 use Rattle.front.proofs.BetweenLaws.{Inside}
+use Rattle.front.specs.declared.Span.{Span}
+use Rattle.front.specs.Made.{span}
 
 -- ---- a VarUInt
 
@@ -39,20 +40,20 @@ answer_number stop go m g s = number_both (λ o b. answer_of stop go m g o ≡ b
 
 -- ---- a size, and what it counts
 
-abbrev pub span_then : {B : Type 0} → (Stop → B) → (ℕ → ℕ → Faults → B) → Span → B
-span_then stop k (P.Stop j) = stop j
-span_then stop k (P.Part a e h) = k a e h
+abbrev pub span_then : {B : Type 0} → (Stop → B) → (ℕ → ℕ → Faults → B) → Result Span Stop → B
+span_then stop k (Err j) = stop j
+span_then stop k (Ok p) = k p.begin p.end p.faults
 
 module _ {B : Type 0} (stop : Stop → B) (m : Modes) (g : Faults) (s : List ℕ) where
   pub span_same : (k l : ℕ → ℕ → Faults → B) → ((a e : ℕ) (h : Faults) → Inside a e s → k a e h ≡ l a e h)
       → span_then stop k (span_at m g s) ≡ span_then stop l (span_at m g s)
   unfolding span_at
-  span_same k l f = number_all (λ o. span_then stop k o ≡ span_then stop l o) (P.Stop Early) _ s refl λ v n x e.
+  span_same k l f = number_all (λ o. span_then stop k o ≡ span_then stop l o) (Err Early) _ s refl λ v n x e.
       fits v n x (ltb (length s - n) v) (var_range s v n x e).2 refl
     where
       fits : (v n : ℕ) (x z : Bool) → n ≤ length s → ltb (length s - n) v ≡ z
-          → span_then stop k (cond z (P.Stop Early) (P.Part n (n + v) (noted m g (flaw_if (not x) Long))))
-          ≡ span_then stop l (cond z (P.Stop Early) (P.Part n (n + v) (noted m g (flaw_if (not x) Long))))
+          → span_then stop k (cond z (Err Early) (span n (n + v) (noted m g (flaw_if (not x) Long))))
+          ≡ span_then stop l (cond z (Err Early) (span n (n + v) (noted m g (flaw_if (not x) Long))))
       fits v n x true r e = refl
       fits v n x false r e =
           f n (n + v) (noted m g (flaw_if (not x) Long)) (record { order = omega arith; within = omega (arith, ltb-false (length s - n) v e) })
@@ -62,12 +63,12 @@ module _ {B : Type 0} (stop : Stop → B) (m : Modes) (g : Faults) (s : List ℕ
   unfolding span_at
   answer_sized go p = answer_bind stop go m g (read_var_uint s) _ ∙ (answer_number stop
       (λ a e r. answer_of stop go m e (cond (ltb (length r) a) (fault Early) (whole (p (take a r)) (drop a r)))) m g s ∙ number_both
-      (λ b o. b ≡ span_then stop (λ a e h. answer_of stop go m h (whole (p (between a e s)) (drop e s))) o) (stop Early) _ (P.Stop Early) _ s refl
+      (λ b o. b ≡ span_then stop (λ a e h. answer_of stop go m h (whole (p (between a e s)) (drop e s))) o) (stop Early) _ (Err Early) _ s refl
       (λ v n x e. fits v n (noted m g (flaw_if (not x) Long)) (ltb (length s - n) v) refl))
     where
       fits : (v n : ℕ) (h : Faults) (z : Bool) → ltb (length s - n) v ≡ z
           → answer_of stop go m h (cond (ltb (length (drop n s)) v) (fault Early) (whole (p (take v (drop n s))) (drop v (drop n s))))
-          ≡ span_then stop (λ a e h. answer_of stop go m h (whole (p (between a e s)) (drop e s))) (cond z (P.Stop Early) (P.Part n (n + v) h))
+          ≡ span_then stop (λ a e h. answer_of stop go m h (whole (p (between a e s)) (drop e s))) (cond z (Err Early) (span n (n + v) h))
       fits v n h true e = rw (length-drop n s, e)
       fits v n h false e = let d : n + v - n ≡ v = omega arith in rw (length-drop n s, e, d, drop-drop v n s)
 
@@ -81,10 +82,10 @@ module _ {B : Type 0} (stop : Stop → B) (m : Modes) (g : Faults) (s : List ℕ
 
 module _ {B : Type 0} (stop : Stop → B) (m : Modes) (g : Faults) (s : List ℕ) where
   -- a span's answer with the text looked at
-  text_then : (k : ℕ → ℕ → Faults → B) (x : Span)
+  text_then : (k : ℕ → ℕ → Faults → B) (x : Result Span Stop)
       → span_then stop (λ a e h. k a e (noted m h (flaw_if (not (is_text (between a e s))) NotUtf8))) x ≡ span_then stop k (text_of m s x)
-  text_then k (P.Stop j) = refl
-  text_then k (P.Part a e h) = refl
+  text_then k (Err j) = refl
+  text_then k (Ok p) = refl
 
   text_same : (k l : ℕ → ℕ → Faults → B) → ((a e : ℕ) (h : Faults) → Inside a e s → k a e h ≡ l a e h)
       → span_then stop k (text_at m g s) ≡ span_then stop l (text_at m g s)

@@ -1,3 +1,4 @@
 pub mod Between
 pub mod Code
+pub mod Made
 pub mod Pieces

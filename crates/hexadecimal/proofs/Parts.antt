@@ -9,6 +9,7 @@ use mathlib.Core.List.{List, [], ◌∷◌, ◌++◌}
 use lib.ListN.{length, drop, set, length-set}
 use lib.Seq.{sets, sets-eq}
 use lib.Dec.{eqb, leb}
+use Rattle.std.specs.Prelude.{Some, None, is_some}
 use borrow.Author.Tests.{lt-ltb, leb-true}
 use Rattle.number.proofs.Clash.{clash}
 use Rattle.frames.specs.Program.{Character, digit, line_feed, another, character, Typed, typed, mistyped, first, type_one, type_from, bytes_typed}
@@ -25,8 +26,8 @@ parts (c ∷ a) b t l = parts a b (fed_one c t l).typing (fed_one c t l).list
 
 -- n bytes formed, with a digit at hand or with none
 abbrev state : ℕ → Option ℕ → Typing
-state n none = record { formed = n; begun = false; digit = 0; wrong = false }
-state n (some h) = record { formed = n; begun = true; digit = h; wrong = false }
+state n none = record { formed = n; digit = None; wrong = false }
+state n (some h) = record { formed = n; digit = Some h; wrong = false }
 
 abbrev Small : Option ℕ → Type 0
 Small none = Unit {0}
@@ -74,7 +75,7 @@ step_feed c n none l e = rw e
 step_feed c n (some h) l e = rw e
 
 abbrev halted : Typing → Typing
-halted t = record { formed = t.formed; begun = t.begun; digit = t.digit; wrong = true }
+halted t = record { formed = t.formed; digit = t.digit; wrong = true }
 
 step_another : (c n : ℕ) (o : Option ℕ) (l : List ℕ) → character c ≡ another → fed_one c (state n o) l ≡ afterwards (halted (state n o)) l
 unfolding told
@@ -121,7 +122,7 @@ on_typed (c ∷ s) n o l bs h i e = at (λ m q k vs. on_typed s m q k vs) (chara
 -- mistyped: at its place, with a digit at hand or at another character
 record Told (p : ℕ) (t : Typing) : Type 0 where
   place : t.formed ≡ p
-  open_or_wrong : (t.begun || t.wrong) ≡ true
+  open_or_wrong : (is_some t.digit || t.wrong) ≡ true
 
 on_mistyped : (s : List ℕ) (n : ℕ) (o : Option ℕ) (l : List ℕ) (p : ℕ) → n + length s < 2 ^ 64 → Small o → type_from s n o ≡ mistyped p
     → Told p (fed s (state n o) l).typing
@@ -160,7 +161,7 @@ puts_sets (b ∷ bs) l n h =
 
 -- a text that is well typed: its bytes stand at the front of a list that has room for them, nothing else is touched, and no digit is at hand
 pub whole_typed : (s l bs : List ℕ) → length s < 2 ^ 64 → bytes_typed s ≡ typed bs
-    → ((fed s start l).typing ≡ record { formed = length bs; begun = false; digit = 0; wrong = false })
+    → ((fed s start l).typing ≡ record { formed = length bs; digit = None; wrong = false })
     × (length bs ≤ length l → (fed s start l).list ≡ bs ++ drop (length bs) l)
 unfolding bytes_typed
 whole_typed s l bs h e =
@@ -172,6 +173,6 @@ whole_typed s l bs h e =
 
 -- a text that is mistyped: the place is the number of bytes formed before it; a digit is at hand at the end, or another character was met
 pub whole_mistyped : (s l : List ℕ) (p : ℕ) → length s < 2 ^ 64 → bytes_typed s ≡ mistyped p
-    → ((fed s start l).typing.formed ≡ p) × (((fed s start l).typing.begun || (fed s start l).typing.wrong) ≡ true)
+    → ((fed s start l).typing.formed ≡ p) × ((is_some (fed s start l).typing.digit || (fed s start l).typing.wrong) ≡ true)
 unfolding bytes_typed
 whole_mistyped s l p h e = let i = on_mistyped s 0 none l p (omega arith) tt e in (i.place, i.open_or_wrong)

@@ -1,6 +1,6 @@
 -- Typing on: what one more part of the text makes of what was typed before (document 01, "The write list", its last paragraph). `bytes_typed`, of the whole
 -- text, is in frames' Program.antt, and proofs/Parts.antt says that typing part by part gives it.
-use Rattle.std.specs.Prelude.{ℕ, ◌+◌, ◌-◌, ◌*◌, ◌%◌, ◌^◌, Bool, true, false, cond, List, [], ◌∷◌, length, set, ltb}
+use Rattle.std.specs.Prelude.{ℕ, ◌+◌, ◌-◌, ◌*◌, ◌%◌, ◌^◌, true, false, cond, List, [], ◌∷◌, length, set, ltb, Option, Some, None}
 use Rattle.frames.specs.Program.{character, digit, line_feed, another}
 use Rattle.frames.specs.Program as program
 use Rattle.hexadecimal.specs.declared.Character.{Character}
@@ -24,7 +24,7 @@ abbrev pub afterwards : Typing → List ℕ → Fed
 afterwards t l = record { typing = t; list = l }
 
 abbrev pub start : Typing
-start = record { formed = 0; begun = false; digit = 0; wrong = false }
+start = record { formed = 0; digit = None; wrong = false }
 
 -- the number of bytes, as far as 64 bits count
 abbrev pub one_more : ℕ → ℕ
@@ -35,19 +35,18 @@ abbrev pub put : List ℕ → ℕ → ℕ → List ℕ
 put l n b = cond (ltb n (length l)) (set l n b) l
 
 -- a second digit makes a byte
-abbrev pub fed_second : ℕ → Typing → List ℕ → Fed
-fed_second d t l =
-    afterwards (record { formed = one_more t.formed; begun = false; digit = 0; wrong = false }) (put l t.formed (t.digit % 16 * 16 + d % 16))
+abbrev pub fed_second : ℕ → ℕ → Typing → List ℕ → Fed
+fed_second h d t l = afterwards (record { formed = one_more t.formed; digit = None; wrong = false }) (put l t.formed (h % 16 * 16 + d % 16))
 
 -- a first digit is kept; a line feed means nothing; another character is wrong
-abbrev pub fed_by : Bool → Character → Typing → List ℕ → Fed
-fed_by true (C.Digit d) t l = fed_second d t l
-fed_by false (C.Digit d) t l = afterwards (record { formed = t.formed; begun = true; digit = d; wrong = false }) l
-fed_by b C.LineFeed t l = afterwards t l
-fed_by b C.Another t l = afterwards (record { formed = t.formed; begun = t.begun; digit = t.digit; wrong = true }) l
+abbrev pub fed_by : Character → Option ℕ → Typing → List ℕ → Fed
+fed_by (C.Digit d) (Some h) t l = fed_second h d t l
+fed_by (C.Digit d) None t l = afterwards (record { formed = t.formed; digit = Some d; wrong = false }) l
+fed_by C.LineFeed o t l = afterwards t l
+fed_by C.Another o t l = afterwards (record { formed = t.formed; digit = t.digit; wrong = true }) l
 
 abbrev pub fed_one : ℕ → Typing → List ℕ → Fed
-fed_one c t l = cond t.wrong (afterwards t l) (fed_by t.begun (told c) t l)
+fed_one c t l = cond t.wrong (afterwards t l) (fed_by (told c) t.digit t l)
 
 abbrev pub onward : (Typing → List ℕ → Fed) → Fed → Fed
 onward go f = go f.typing f.list

@@ -1,19 +1,10 @@
 #![tactic(auto)]
 // Runs the examples of Spec 2.7 both ways, and the floats of document 01. The stored output is written from the documents.
-use encode::Stored;
-use number::VarUInt;
-
 const STDOUT_FILENO: i32 = 1;
 
-fn wide(b: u8) -> u64 {
-    b as u64
-}
-
 fn print_bytes(part: &[u8]) {
-    let mut i = 0;
-    while i < part.len() {
-        io::print_hex(STDOUT_FILENO, wide(part[i]), 2);
-        i += 1;
+    for b in part {
+        io::print_hex(STDOUT_FILENO, u64::from(*b), 2);
     }
 }
 
@@ -23,10 +14,10 @@ fn put(v: u64, out: &mut [u8]) {
     io::print_hex(STDOUT_FILENO, v, 1);
     io::write_all(STDOUT_FILENO, b": ");
     match encode::put(v, out, 0) {
-        Stored::Done(n) => {
+        Some(n) => {
             print_bytes(&out[..n]);
         }
-        Stored::NoRoom => {
+        None => {
             io::write_all(STDOUT_FILENO, b"no room");
         }
     }
@@ -47,19 +38,15 @@ fn read(part: &[u8]) {
     print_bytes(part);
     io::write_all(STDOUT_FILENO, b": ");
     match number::read(part) {
-        VarUInt::Cut { missing } => {
+        Err(cut) => {
             io::write_all(STDOUT_FILENO, b"cut, missing ");
-            io::print_decimal(STDOUT_FILENO, missing as u64);
+            io::print_decimal(STDOUT_FILENO, cut.missing as u64);
         }
-        VarUInt::Whole {
-            value,
-            length,
-            minimal,
-        } => {
-            io::print_hex(STDOUT_FILENO, value, 1);
+        Ok(number) => {
+            io::print_hex(STDOUT_FILENO, number.value, 1);
             io::write_all(STDOUT_FILENO, b" of ");
-            io::print_decimal(STDOUT_FILENO, length as u64);
-            print_minimal(minimal);
+            io::print_decimal(STDOUT_FILENO, number.length as u64);
+            print_minimal(number.minimal);
         }
     }
     io::write_all(STDOUT_FILENO, b"\n");

@@ -1,2 +1,1 @@
-pub mod LeafReturns
 pub mod OneAnswer

@@ -1,4 +1,5 @@
 -- The first pass, a frame and its payload: what the code knows at each return.
+use Rattle.std.specs.Prelude.{Result, Ok, Err}
 use Prim.Native.Nat.{ℕ, zero, suc, ◌+◌, ◌-◌, ◌≤◌, ◌<◌}
 use native.Mathlib.Omega.{arith}
 use native.Mathlib.Nat.{add-zero}
@@ -10,6 +11,7 @@ use lib.ListN.{length, drop, length-append, length-drop}
 use Rattle.number.proofs.Clash.{clash}
 use Rattle.number.specs.BigEndian.{Bytes}
 use Rattle.format.specs.declared.Kind.{Kind}
+use Rattle.format.specs.declared.Kind.TheVariants.{Object, Array}
 use Rattle.format.specs.declared.Flaw.TheVariants.{Long, Low, NotUtf8}
 use Rattle.format.specs.Kinds.{id}
 use Rattle.format.specs.Mask.{has}
@@ -18,42 +20,43 @@ use Rattle.format.specs.Payload.{leaf, payload}
 use Rattle.format.specs.Tree.{Leaf, atom, Tree}
 use Rattle.frames.specs.declared.Refusal.{Refusal}
 use Rattle.frames.specs.declared.Refusal.TheVariants.{TooDeep, BadFrame, NotText}
+use Rattle.frames.specs.declared.Refused.{Refused}
 use Rattle.frames.specs.WriteList.{Frames, refused, framed, next, is_writable, leaf_found, frame_payload, frame, read_frames}
 use Rattle.frames.specs.Container.{name_part}
 use Rattle.frames.specs.FramePieces.{mode_of, frame_front, IsLeaf}
+use Rattle.frames.specs.Writer.{refused_at}
 use Rattle.frames.proofs.LeafLaws.{leaf_of_law}
 use Rattle.frames.proofs.FrontLaws.{front_got, with_name, frame_front_law, front_rests, array_payload, leaf_kind_law, object_payload}
 use Rattle.frames.proofs.PlaceLaws.{bytes_drop, place, tail_at}
-use Rattle.frames.proofs.Used.{leaf_short, kind_object, kind_array}
+use Rattle.frames.proofs.Used.{leaf_short}
 use Rattle.twins.specs.Own.{own_name}
 use Rattle.used.proofs.ReadLaws.{front_none, deep_none}
+use Rattle.frame.specs.declared.Frame.{Frame}
 use Rattle.frame.specs.declared.LeafFrame.{LeafFrame}
 use Rattle.frame.specs.Pieces.{leaf_met, leaf_frame_at}
-use Rattle.settle.specs.declared.Measured.{Measured}
-use Rattle.settle.specs.declared.Measured.TheVariants as M
-use Rattle.frame.specs.declared.Frame.{Frame}
-use Rattle.frame.specs.declared.Frame.TheVariants as F
 use Rattle.frame.specs.Front.{front_met, front_by, front_at}
 use Rattle.measure.specs.Passes.{leaf_measured, LeafSmall, PayloadBy, FieldBy, FieldAt}
 use Rattle.measure.specs.Passes.{PayloadAt, ContentsAt, Lent}
+use Rattle.measure.proofs.MadeLaws.{frame_same}
 use Rattle.measure.proofs.SmallLaws.{Plain}
+use Rattle.settle.specs.declared.Measured.{Measured}
 
 -- ---- a frame up to its payload
 
-module _ (d : ℕ) (s : List ℕ) (at : ℕ) (named : Bool) (l : at < length s) (f : Frame) (a : f ≡ front_at d s at named) where
+module _ (d : ℕ) (s : List ℕ) (at : ℕ) (named : Bool) (l : at < length s) (f : Result Frame Refusal) (a : f ≡ front_at d s at named) where
   -- it is refused, and has no right name
   pub record Barred (n : Refusal) : Type 0 where
     pub whole : read_frames d (mode_of named []) (drop at s) ≡ refused n (drop at s)
     pub unnamed : named ≡ true → own_name d (drop at s) ≡ none
 
-  pub barred : (n : Refusal) → f ≡ F.Refused n → Barred n
+  pub barred : (n : Refusal) → f ≡ Err n → Barred n
   unfolding front_at read_frames
   barred n i = let z = go d (sym i ∙ a) in record { whole = z.0; unnamed = z.1 }
     where
       full : 0 < length (drop at s)
       full = rw (length-drop at s) (omega arith)
 
-      by : (e : ℕ) (o : Frames (List ℕ × Kind)) → frame_front (mode_of named []) (drop at s) ≡ o → F.Refused n ≡ front_met (length s) o
+      by : (e : ℕ) (o : Frames (List ℕ × Kind)) → frame_front (mode_of named []) (drop at s) ≡ o → Err n ≡ front_met (length s) o
           → (read_frames (suc e) (mode_of named []) (drop at s) ≡ refused n (drop at s)) × (named ≡ true → own_name (suc e) (drop at s) ≡ none)
       by e (framed x q) j h = clash cc
       by e (refused m q) j h =
@@ -62,41 +65,42 @@ module _ (d : ℕ) (s : List ℕ) (at : ℕ) (named : Bool) (l : at < length s) 
           let y : frame (read_frames e) (mode_of named []) (drop at s) ≡ refused m q = frame_front_law (read_frames e) (mode_of named []) (drop at s) full ∙ (rw j) in
           (y ∙ (rw (v, t)), λ b. front_none (suc e) (drop at s) m q (rw b at j))
 
-      go : (d : ℕ) → F.Refused n ≡ front_by d (length s) (frame_front (mode_of named []) (drop at s))
+      go : (d : ℕ) → Err n ≡ front_by d (length s) (frame_front (mode_of named []) (drop at s))
           → (read_frames d (mode_of named []) (drop at s) ≡ refused n (drop at s)) × (named ≡ true → own_name d (drop at s) ≡ none)
       go zero h = let v : n ≡ TooDeep = cc in (rw v, λ b. deep_none (drop at s))
       go (suc e) h = by e (frame_front (mode_of named []) (drop at s)) refl h
 
   -- it is read up to its payload
-  module _ (bytes : Bytes s) (kind : Kind) (begin start : ℕ) (i : f ≡ F.Read kind begin start) where
+  module _ (bytes : Bytes s) (fr : Frame) (i : f ≡ Ok fr) where
     pub record Got : Type 0 where
       pub level : ℕ
       pub deep : d ≡ suc level
       pub name : List ℕ
       pub left : List ℕ
-      pub was : frame_front (mode_of named []) (drop at s) ≡ framed (name, kind) left
-      pub begin_is : begin ≡ length s - length left - length name
-      pub start_is : start ≡ length s - length left
-      pub length_is : start ≡ at + 1 + length (name_part named name)
-      pub inside : start ≤ length s
-      pub tail : drop start s ≡ left
-      pub good : is_writable (payload kind) ≡ true
+      pub was : frame_front (mode_of named []) (drop at s) ≡ framed (name, fr.kind) left
+      pub begin_is : fr.begin ≡ length s - length left - length name
+      pub start_is : fr.start ≡ length s - length left
+      pub length_is : fr.start ≡ at + 1 + length (name_part named name)
+      pub inside : fr.start ≤ length s
+      pub tail : drop fr.start s ≡ left
+      pub good : is_writable (payload fr.kind) ≡ true
 
     pub got_frame : Got
     unfolding front_at
     got_frame = go d refl (sym i ∙ a)
       where
         by : (e : ℕ) → d ≡ suc e → (o : Frames (List ℕ × Kind)) → frame_front (mode_of named []) (drop at s) ≡ o
-            → F.Read kind begin start ≡ front_met (length s) o → Got
+            → Ok fr ≡ front_met (length s) o → Got
         by e y (refused n r) j h = clash cc
         by e y (framed x q) j h =
-            let k₁ : x.1 ≡ kind = cc in
-            let z : frame_front (mode_of named []) (drop at s) ≡ framed (x.0, kind) q = j ∙ ap (λ (y : Kind). framed (x.0, y) q) k₁ in
+            let e₁ = frame_same h in
+            let k₁ : x.1 ≡ fr.kind = sym e₁.0 in
+            let z : frame_front (mode_of named []) (drop at s) ≡ framed (x.0, fr.kind) q = j ∙ ap (λ (y : Kind). framed (x.0, y) q) k₁ in
             let g = front_got named [] (drop at s) (bytes_drop s at bytes) z in
-            let t = tail_at s at (id kind ∷ name_part named x.0) q (omega arith) g.is in
-            let b : begin ≡ length s - length q - length x.0 = cc in
-            let n : start ≡ length s - length q = cc in
-            let u : start ≡ at + suc (length (name_part named x.0)) = n ∙ t.0 in
+            let t = tail_at s at (id fr.kind ∷ name_part named x.0) q (omega arith) g.is in
+            let b : fr.begin ≡ length s - length q - length x.0 = e₁.1 in
+            let n : fr.start ≡ length s - length q = e₁.2 in
+            let u : fr.start ≡ at + suc (length (name_part named x.0)) = n ∙ t.0 in
             record {
               level = e;
               deep = y;
@@ -111,41 +115,41 @@ module _ (d : ℕ) (s : List ℕ) (at : ℕ) (named : Bool) (l : at < length s) 
               good = g.good;
             }
 
-        go : (e : ℕ) → d ≡ e → F.Read kind begin start ≡ front_by e (length s) (frame_front (mode_of named []) (drop at s)) → Got
+        go : (e : ℕ) → d ≡ e → Ok fr ≡ front_by e (length s) (frame_front (mode_of named []) (drop at s)) → Got
         go zero y h = clash cc
         go (suc e) y h = by e y (frame_front (mode_of named []) (drop at s)) refl h
 
     pub frame_deep : 1 ≤ d
     frame_deep = let g = got_frame in omega (arith, g.deep)
 
-    pub frame_start : at < start
+    pub frame_start : at < fr.start
     frame_start = let g = got_frame in omega (arith, g.length_is)
 
-    pub frame_inside : start ≤ length s
+    pub frame_inside : fr.start ≤ length s
     frame_inside = got_frame.inside
 
-    pub frame_good : is_writable (payload kind) ≡ true
+    pub frame_good : is_writable (payload fr.kind) ≡ true
     frame_good = got_frame.good
 
     -- with its payload it is the frame
-    pub field_of : (k : ℕ) (w w' : List ℕ) (m : Measured) → PayloadAt (d - 1) s at start kind k w w' m → FieldAt d s at named k w w' m
+    pub field_of : (k : ℕ) (w w' : List ℕ) (m : Result Measured Refused) → PayloadAt (d - 1) s at fr.start fr.kind k w w' m → FieldAt d s at named k w w' m
     unfolding read_frames
     field_of k w w' m y =
         let g = got_frame in
         let z : d - 1 ≡ g.level = omega (arith, g.deep) in
-        let b : start - (at + 1) ≡ length (name_part named g.name) = omega (arith, g.length_is) in
+        let b : fr.start - (at + 1) ≡ length (name_part named g.name) = omega (arith, g.length_is) in
         let o : read_frames (suc g.level) (mode_of named []) (drop at s) ≡ with_name g.name
-        (frame_payload (read_frames g.level) (drop at s) (payload kind) g.left) =
+        (frame_payload (read_frames g.level) (drop at s) (payload fr.kind) g.left) =
         frame_front_law (read_frames g.level) (mode_of named []) (drop at s) (rw (length-drop at s) (omega arith)) ∙ (rw g.was) in
-        rw (g.deep, o) (by g.level g.name (frame_payload (read_frames g.level) (drop at s) (payload kind) g.left) (rw (z, g.tail, b) at y))
+        rw (g.deep, o) (by g.level g.name (frame_payload (read_frames g.level) (drop at s) (payload fr.kind) g.left) (rw (z, g.tail, b) at y))
       where
         by : (e : ℕ) (n : List ℕ) (o : Frames (Tree (suc e))) → PayloadBy (suc e) (length s) (length (name_part named n)) k w w' m o
             → FieldBy (suc e) (length s) named k w w' m (with_name n o)
         by e n (refused j r) h = record { answer = h.answer; work = h.work }
         by e n (framed t r) h = record { answer = h.answer; work = h.work }
 
-  pub field_refused : (k : ℕ) (w : List ℕ) (n : Refusal) → f ≡ F.Refused n → FieldAt d s at named k w w (M.Refused n at)
-  field_refused k w n i = let b = barred n i in rw b.whole (record { answer = ap (M.Refused n) (sym (place s at (omega arith))); work = refl })
+  pub field_refused : (k : ℕ) (w : List ℕ) (n : Refusal) → f ≡ Err n → FieldAt d s at named k w w (refused_at n at)
+  field_refused k w n i = let b = barred n i in rw b.whole (record { answer = ap (refused_at n) (sym (place s at (omega arith))); work = refl })
 
 -- ---- a payload
 
@@ -153,21 +157,15 @@ module _ (d : ℕ) (s : List ℕ) (at : ℕ) (named : Bool) (l : at < length s) 
 abbrev Asked : List ℕ → ℕ → ℕ → Kind → ℕ → Type 0
 Asked s at start kind k = (at < start) × (start ≤ length s) × (is_writable (payload kind) ≡ true) × Lent s at k
 
--- and for its contents
-pub contents_lent : (s : List ℕ) (at start : ℕ) (kind : Kind) (k : ℕ) → Asked s at start kind k
-    → (start ≤ length s) × (start - (at + 1) ≤ start) × (k < start) × Lent s start k
-contents_lent s at start kind k (l, i, good, lt) =
-    (i, omega arith, omega (arith, lt.few_numbers), record { bytes = lt.bytes; short = lt.short; few_numbers = omega (arith, lt.few_numbers) })
-
 module _ (d : ℕ) (s : List ℕ) (at start : ℕ) (kind : Kind) (k : ℕ) where
-  module _ (before : ℕ) (eb : before ≡ start - (at + 1)) (w w' : List ℕ) (m : Measured) (n : ℕ) (en : n ≡ id kind) where
-    pub payload_object : n ≡ 2 → ContentsAt d s start before true k w w' m → PayloadAt d s at start kind k w w' m
-    payload_object i c = rw (object_payload (read_frames d) (drop at s) kind (drop start s) (kind_object kind (sym en ∙ i)), ← eb) c
+  module _ (w w' : List ℕ) (m : Result Measured Refused) where
+    pub payload_object : kind ≡ Object → ContentsAt d s start (start - (at + 1)) true k w w' m → PayloadAt d s at start kind k w w' m
+    payload_object e c = rw (object_payload (read_frames d) (drop at s) kind (drop start s) e) c
 
-    pub payload_array : n ≡ 4 → ContentsAt d s start before false k w w' m → PayloadAt d s at start kind k w w' m
-    payload_array i c = rw (array_payload (read_frames d) (drop at s) kind (drop start s) (kind_array kind (sym en ∙ i)), ← eb) c
+    pub payload_array : kind ≡ Array → ContentsAt d s start (start - (at + 1)) false k w w' m → PayloadAt d s at start kind k w w' m
+    payload_array e c = rw (array_payload (read_frames d) (drop at s) kind (drop start s) e) c
 
-  module _ (asked : Asked s at start kind k) (x : LeafFrame) (ex : x ≡ leaf_frame_at kind s start) (plain : Plain kind)
+  module _ (asked : Asked s at start kind k) (x : Result LeafFrame Refusal) (ex : x ≡ leaf_frame_at kind s start) (plain : Plain kind)
       (before : ℕ) (eb : before ≡ start - (at + 1)) where
     lt : Lent s at k
     lt = asked.3
@@ -190,7 +188,7 @@ module _ (d : ℕ) (s : List ℕ) (at start : ℕ) (kind : Kind) (k : ℕ) where
             let n : length (drop start s) ≡ length z.0 + length r = ap length z.1 ∙ length-append z.0 r in
             rw h (omega (arith, z.2, lt.short, length-drop start s, asked.0, asked.1))
 
-    pub leaf_is : (w : List ℕ) (m : Measured) → m ≡ leaf_measured at before k x → PayloadAt d s at start kind k w w m
+    pub leaf_is : (w : List ℕ) (m : Result Measured Refused) → m ≡ leaf_measured at before k x → PayloadAt d s at start kind k w w m
     leaf_is w m em = leaf_of_law kind il λ p ep. rw (ep, ← eb) (cases (p (drop start s)) (em ∙ ap (leaf_measured at before k) (leaf_met_law p ep)))
       where
         By : Frames Leaf → Type 0
@@ -211,3 +209,7 @@ module _ (d : ℕ) (s : List ℕ) (at start : ℕ) (kind : Kind) (k : ℕ) where
         cases : (o : Out Leaf) → m ≡ leaf_measured at before k (leaf_met (length s) (leaf_found (drop start s) o)) → By (leaf_found (drop at s) o)
         cases (fault j) h = record { answer = h ∙ rw place_is; work = refl }
         cases (got v fs r) h = same (has Long fs) (has Low fs) (has NotUtf8 fs) v r h
+
+-- ---- the top field
+
+pub ruleset top_laws = (frame_deep, frame_start, frame_inside, frame_good)

@@ -1,3 +1,4 @@
+mod MadeLaws
 mod SmallLaws
 mod ContainerFits
 mod FieldCases

@@ -1,4 +1,5 @@
 -- The first pass, the fields of an object or the items of an array: what the loop's variables hold of the fields so far.
+use Rattle.std.specs.Prelude.{Result}
 use Prim.Native.Nat.{ℕ, suc, ◌+◌, ◌*◌, ◌≤◌, ◌<◌}
 use native.Mathlib.Omega.{arith}
 use mathlib.Core.Path.{◌≡◌, refl}
@@ -13,8 +14,9 @@ use Rattle.frames.specs.Container.{node_of, ids, packs_of}
 use Rattle.run.specs.Run.{shared}
 use Rattle.frames.specs.FramePieces.{mode_of}
 use Rattle.frames.proofs.ContainerLaws.{plain}
-use Rattle.settle.specs.declared.Measured.{Measured}
 use Rattle.measure.specs.Passes.{PayloadBy}
+use Rattle.settle.specs.declared.Measured.{Measured}
+use Rattle.frames.specs.declared.Refused.{Refused}
 
 -- the frames of a container, whatever names it has so far
 abbrev pub loosely : (d : ℕ) → Bool → ℕ → List (List ℕ) → List ℕ → Frames (List (List ℕ × Tree d))
@@ -27,7 +29,7 @@ onto named xs o = next o λ ys r. framed (node_of named (xs ++ ys)) r
 abbrev pub loose_of : (d : ℕ) → Bool → List ℕ → Frames (Node (Tree d))
 loose_of d named s = onto named [] (loosely d named (length s) [] s)
 
-abbrev pub LooseAt : (d : ℕ) (s : List ℕ) (at before : ℕ) (named : Bool) (k : ℕ) (w w' : List ℕ) (m : Measured) → Type 0
+abbrev pub LooseAt : (d : ℕ) (s : List ℕ) (at before : ℕ) (named : Bool) (k : ℕ) (w w' : List ℕ) (m : Result Measured Refused) → Type 0
 LooseAt d s at before named k w w' m = PayloadBy (suc d) (length s) before k w w' m (loose_of d named (drop at s))
 
 abbrev pub packs_in : (d : ℕ) → List (List ℕ × Tree d) → List ℕ

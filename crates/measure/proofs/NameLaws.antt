@@ -1,4 +1,5 @@
 -- The first pass, the names of an object: what is noted of the frames so far.
+use Rattle.std.specs.Prelude.{Result, Ok, Err}
 use Prim.Native.Nat.{ℕ, ◌+◌, ◌-◌, ◌≤◌, ◌<◌}
 use native.Mathlib.Omega.{arith}
 use mathlib.Core.Path.{◌≡◌, refl, sym, ap, ◌∙◌}
@@ -9,9 +10,9 @@ use lib.ListN.{length, take, drop, get_or, length-append, length-drop, drop_of_l
 use lib.Seq.{drop-drop, take_at, length-take-le}
 use Rattle.number.proofs.Clash.{clash}
 use Rattle.number.specs.BigEndian.{Bytes}
-use Rattle.format.specs.declared.Kind.{Kind}
 use Rattle.format.specs.Tree.{Tree}
 use Rattle.frames.specs.declared.Refusal.{Refusal}
+use Rattle.frames.specs.declared.Refused.{Refused}
 use Rattle.frames.specs.WriteList.{Frames, refused, framed, read_frames}
 use Rattle.frames.proofs.PlaceLaws.{rest}
 use Rattle.entries.specs.Entry.{entry_of}
@@ -20,14 +21,13 @@ use Rattle.notes.specs.declared.Notes.TheVariants.{Few}
 use Rattle.notes.specs.Notes.{held_in, noting, added}
 use Rattle.notes.proofs.NoteLaws.{Noted, noted_none, noted_held, noted_kept, noted_more}
 use Rattle.used.proofs.ReadLaws.{Read, Ended, reading_starts, read_ends, read_closes, read_bad, read_cut, read_more}
-use Rattle.settle.specs.declared.Measured.{Measured}
-use Rattle.settle.specs.declared.Measured.TheVariants as M
-use Rattle.frame.specs.declared.Frame.{Frame}
-use Rattle.frame.specs.declared.Frame.TheVariants as F
 use Rattle.frame.specs.Front.{front_at}
 use Rattle.naming.specs.Names.{noted_by}
 use Rattle.measure.specs.Passes.{field_measured, FieldAt}
+use Rattle.measure.proofs.MadeLaws.{measured_same}
 use Rattle.measure.proofs.FieldCases.{barred, Got, got_frame}
+use Rattle.frame.specs.declared.Frame.{Frame}
+use Rattle.settle.specs.declared.Measured.{Measured}
 
 -- a place of the list, in the part from another on
 pub part_at : (s : List ℕ) (at p : ℕ) → at ≤ p → drop (p - at) (drop at s) ≡ drop p s
@@ -85,19 +85,19 @@ module _ (d : ℕ) (s : List ℕ) (at : ℕ) where
           end_of (read_closes d (drop at s) reach w.es (p - at) w.read (drop p s) (part_at s at p l) (drop (p + 1) s)
           (rest s p h ∙ ap (λ (b : ℕ). b ∷ drop (p + 1) s) z))
 
-      module _ (f : Frame) (a : f ≡ front_at d s p true) where
-        pub names_bad : (b : Refusal) → f ≡ F.Refused b → NamesEnded t notes reach n
+      module _ (f : Result Frame Refusal) (a : f ≡ front_at d s p true) where
+        pub names_bad : (b : Refusal) → f ≡ Err b → NamesEnded t notes reach n
         names_bad b j =
             let o = barred d s p true h f a b j in
             end_of (read_bad d (drop at s) reach w.es (p - at) w.read (drop p s) (part_at s at p l) b (drop p s) o.whole (o.unnamed refl))
 
-        module _ (bytes : Bytes s) (kind : Kind) (begin start : ℕ) (j : f ≡ F.Read kind begin start) (t' : List ℕ) (notes' : Notes)
-            (y : noting notes' t' ≡ noted_by s at t notes begin start) where
+        module _ (bytes : Bytes s) (fr : Frame) (j : f ≡ Ok fr) (t' : List ℕ) (notes' : Notes)
+            (y : noting notes' t' ≡ noted_by s at t notes fr.begin fr.start) where
           pub names_note : NamesMet t' notes' (n + 1) p
           names_note =
-              let g = got_frame d s p true h f a bytes kind begin start j in
-              let b : begin - at ≡ length (drop at s) - length g.left - length g.name = place_of g g.begin_is in
-              let e : start - at ≡ length (drop at s) - length g.left = end_of_name g g.start_is in
+              let g = got_frame d s p true h f a bytes fr j in
+              let b : fr.begin - at ≡ length (drop at s) - length g.left - length g.name = place_of g g.begin_is in
+              let e : fr.start - at ≡ length (drop at s) - length g.left = end_of_name g g.start_is in
               let z : noting notes' t' ≡ added (drop at s) t notes (entry_of (drop at s) (length (drop at s) - length g.left - length g.name)
               (length (drop at s) - length g.left)) =
               rw (b, e) at y in
@@ -111,18 +111,18 @@ module _ (d : ℕ) (s : List ℕ) (at : ℕ) where
                 es = w.es ++ (entry_of (drop at s) (length (drop at s) - length g.left - length g.name) (length (drop at s) - length g.left) ∷ []);
                 count = length-append w.es _ ∙ ap (λ (x : ℕ). x + 1) w.count;
                 noted = m;
-                cut = read_cut d (drop at s) reach w.es (p - at) w.read (drop p s) (part_at s at p l) g.name g.left kind
+                cut = read_cut d (drop at s) reach w.es (p - at) w.read (drop p s) (part_at s at p l) g.name g.left fr.kind
                     (omega (arith, g.deep)) g.was;
-                more = λ x r q. read_more d (drop at s) reach w.es (p - at) w.read (drop p s) (part_at s at p l) g.name g.left kind
+                more = λ x r q. read_more d (drop at s) reach w.es (p - at) w.read (drop p s) (part_at s at p l) g.name g.left fr.kind
                     (omega (arith, g.deep)) g.was x r q _ (rw (length-drop at s) (end_at_law (length s) at (length r)));
               }
             where
-              place_of : (g : Got d s p true h f a bytes kind begin start j) → begin ≡ length s - length g.left - length g.name
-                  → begin - at ≡ length (drop at s) - length g.left - length g.name
+              place_of : (g : Got d s p true h f a bytes fr j) → fr.begin ≡ length s - length g.left - length g.name
+                  → fr.begin - at ≡ length (drop at s) - length g.left - length g.name
               place_of g q = rw (length-drop at s, q) (begin_at (length s) at (length g.left) (length g.name))
 
-              end_of_name : (g : Got d s p true h f a bytes kind begin start j) → start ≡ length s - length g.left
-                  → start - at ≡ length (drop at s) - length g.left
+              end_of_name : (g : Got d s p true h f a bytes fr j) → fr.start ≡ length s - length g.left
+                  → fr.start - at ≡ length (drop at s) - length g.left
               end_of_name g q = rw (length-drop at s, q) (end_at_law (length s) at (length g.left))
 
   -- what is inside the frame takes the table behind the notes
@@ -140,18 +140,18 @@ module _ (d : ℕ) (s : List ℕ) (at : ℕ) where
           more = w.more;
         }
 
-    module _ (k : ℕ) (v v' : List ℕ) (m : Measured) (y : FieldAt d s p true k v v' m) where
-      pub names_cut : (a : Refusal) (q : ℕ) → m ≡ M.Refused a q → NamesEnded t notes (p - at + 1) n
-      names_cut a q e =
+    module _ (k : ℕ) (v v' : List ℕ) (m : Result Measured Refused) (y : FieldAt d s p true k v v' m) where
+      pub names_cut : (a : Refused) → m ≡ Err a → NamesEnded t notes (p - at + 1) n
+      names_cut a e =
           record { es = w.es; count = w.count; noted = w.noted; ended = go (read_frames d (some []) (drop p s)) refl (sym e ∙ y.answer) }
         where
-          go : (o : Frames (List ℕ × Tree d)) → read_frames d (some []) (drop p s) ≡ o → M.Refused a q ≡ field_measured d (length s) true k o
+          go : (o : Frames (List ℕ × Tree d)) → read_frames d (some []) (drop p s) ≡ o → Err a ≡ field_measured d (length s) true k o
               → Ended d (drop at s) (p - at + 1) w.es
           go (refused b r) h j = w.cut b r h
           go (framed x r) h j = clash cc
 
-      pub names_more : (b i z j : ℕ) → m ≡ M.Read b i z j → NamesRead t notes (p - at + 1) n b
-      names_more b i z j e = record {
+      pub names_more : (fd : Measured) → m ≡ Ok fd → NamesRead t notes (p - at + 1) n fd.next
+      names_more fd e = record {
         held = w.held;
         es = w.es;
         count = w.count;
@@ -159,7 +159,7 @@ module _ (d : ℕ) (s : List ℕ) (at : ℕ) where
         read = go (read_frames d (some []) (drop p s)) refl (sym e ∙ y.answer);
       }
         where
-          go : (o : Frames (List ℕ × Tree d)) → read_frames d (some []) (drop p s) ≡ o → M.Read b i z j ≡ field_measured d (length s) true k o
-              → Read d (drop at s) (p - at + 1) w.es (b - at)
+          go : (o : Frames (List ℕ × Tree d)) → read_frames d (some []) (drop p s) ≡ o → Ok fd ≡ field_measured d (length s) true k o
+              → Read d (drop at s) (p - at + 1) w.es (fd.next - at)
           go (refused a r) h q = clash cc
-          go (framed x r) h q = let c : b ≡ length s - length r = cc in rw c (w.more x r h)
+          go (framed x r) h q = let c : fd.next ≡ length s - length r = (measured_same q).0 in rw c (w.more x r h)

@@ -1,6 +1,6 @@
 #![tactic(auto)]
 // The writer's first pass ("The write list"): it checks every frame, and settles the containers' sizes and all IDs. It cannot reach the output.
-ghost use Rattle.std.specs.Prelude.{◌≡◌, true, false, ◌+◌, ◌≤◌, ◌<◌, length};
+ghost use Rattle.std.specs.Prelude.{◌≡◌, true, false, ◌+◌, ◌≤◌, ◌<◌, length, Ok};
 ghost use Rattle.number.specs.VarUInt.{encoded};
 ghost use Rattle.format.specs.Payload.{payload};
 ghost use Rattle.frames.specs.Container.{size_by, packed};
@@ -9,57 +9,70 @@ ghost use Rattle.measure.specs.Passes.{is_leaf, leaf_measured, LeafSmall, Closed
 ghost use Rattle.measure.specs.Settle.{measurement, settled_within, settled};
 
 use format::Kind;
-use frame::{Frame, LeafFrame};
-use frames::Refusal;
+use frame::LeafFrame;
+use frames::{Refusal, Refused};
 use notes::Notes;
 use settle::{Measured, Settled};
 
 // ---- a leaf and a container
 
+#[tactic(auto, using(crate::proofs::SmallLaws::width_laws))]
 fn width(n: usize) -> usize
     ensures { (result ≡ length (encoded n)) × (1 ≤ result) × (result ≤ 9) }
 {
     encode::length(n as u64)
 }
 
-// The size of a container: the names and payloads of its fields take `sum` bytes.
-fn size_of(named: bool, shared: u8, count: usize, sum: usize) -> usize
-    requires { (count ≤ 65536) × (sum ≤ 655360) }
-    ensures { (result ≡ size_by named shared count sum) × (result ≤ 10 + count + sum) }
-{
-    container::size_of(named, shared, count as u32, sum as u32)
+// The fields of a container so far: the ID that they share, how many they are, and what their names and payloads take.
+#[derive(Clone, Copy)]
+pub struct Contents {
+    pub shared: u8,
+    pub count: usize,
+    pub sum: usize,
 }
 
-// The work number of a container.
-fn pack(named: bool, shared: u8, count: usize, size: usize) -> u32
-    requires { (count ≤ 65536) × (size ≤ 1048576) }
-    ensures { result ≡ packed named shared count size }
-{
-    container::pack(named, shared, count as u32, size as u32) as u32
-}
+impl Contents {
+    // The size of the container.
+    #[tactic(auto, using(crate::proofs::ContainerFits::size_few))]
+    fn size(self, named: bool) -> usize
+        requires { (self.count ≤ 65536) × (self.sum ≤ 655360) }
+        ensures { (result ≡ size_by named self.shared self.count self.sum) × (result ≤ 10 + self.count + self.sum) }
+    {
+        container::size_of(named, self.shared, self.count as u32, self.sum as u32)
+    }
 
-// A container closed at a place of the list: its work number is stored, the k-th. The name before it takes `before` bytes, and j is the next number.
-fn closed(
-    named: bool,
-    shared: u8,
-    count: usize,
-    sum: usize,
-    at: usize,
-    before: usize,
-    work: &mut [u32],
-    k: usize,
-    j: usize,
-) -> Measured
-    requires { (count ≤ 65536) × (sum ≤ 655360) × (at ≤ 65536) × (before ≤ 65536) }
-    ensures { ClosedBy named shared count sum at before k j work.old work.new result }
-{
-    let size = size_of(named, shared, count, sum);
-    container::store(work, k, pack(named, shared, count, size));
-    Measured::Read {
-        next: at + 1,
-        id: container::container_id(named, run::is_uniform(named, shared)),
-        size: before + (width(size) + size),
-        opened: j,
+    // The work number of the container.
+    #[tactic(auto, using(crate::proofs::ContainerFits::pack_fits))]
+    fn pack(self, named: bool, size: usize) -> u32
+        requires { (self.count ≤ 65536) × (size ≤ 1048576) }
+        ensures { result ≡ packed named self.shared self.count size }
+    {
+        container::pack(named, self.shared, self.count as u32, size as u32) as u32
+    }
+
+    // The container, closed at a place of the list: its work number is stored, the k-th. The name before it takes `before` bytes, and `opened` is the next
+    // number.
+    #[tactic(auto, using(crate::proofs::SmallLaws::closed_by))]
+    fn closed(
+        self,
+        named: bool,
+        at: usize,
+        before: usize,
+        work: &mut [u32],
+        k: usize,
+        opened: usize,
+    ) -> Measured
+        requires { (self.count ≤ 65536) × (self.sum ≤ 655360) × (at ≤ 65536) × (before ≤ 65536) }
+        ensures { ClosedBy named self.shared self.count self.sum at before k opened work.old work.new (Ok result) }
+    {
+        let size = self.size(named);
+        container::store(work, k, self.pack(named, size));
+        Measured {
+            next: at + 1,
+            id: container::container_id(named, run::is_uniform(named, self.shared)),
+            size: before + (width(size) + size),
+            opened,
+        }
     }
 }
 
@@ -67,30 +80,28 @@ fn closed(
 fn is_leaf(kind: Kind) -> bool
     ensures { result ≡ is_leaf kind }
 {
-    let id = format::id_of(kind);
-    if id == 2 {
-        return false;
-    }
-    if id == 4 {
-        return false;
-    }
-    true
+    !matches!(kind, Kind::Object | Kind::Array)
 }
 
 // ---- the pass
 
-fn measured_leaf(leaf: LeafFrame, at: usize, before: usize, opened: usize) -> Measured
+fn measured_leaf(
+    leaf: Result<LeafFrame, Refusal>,
+    at: usize,
+    before: usize,
+    opened: usize,
+) -> Result<Measured, Refused>
     requires { LeafSmall leaf before }
     ensures { result ≡ leaf_measured at before opened leaf }
 {
     match leaf {
-        LeafFrame::Refused(refusal) => Measured::Refused(refusal, at),
-        LeafFrame::Read { end, id, size } => Measured::Read {
-            next: end,
-            id: id,
-            size: before + size,
-            opened: opened,
-        },
+        Ok(read) => Ok(Measured {
+            next: read.end,
+            id: read.id,
+            size: before + read.size,
+            opened,
+        }),
+        Err(refusal) => Err(refusal.at(at)),
     }
 }
 
@@ -106,19 +117,16 @@ fn measure_payload(
     work: &mut [u32],
     k: usize,
     left: u32,
-) -> Measured
+) -> Result<Measured, Refused>
     requires { (at < start) × (start ≤ length list.now) × (is_writable (payload kind) ≡ true) × Lent list.now at k }
     ensures { PayloadAt left list.now at start kind k work.old work.new result }
 {
     let before = start - (at + 1);
-    let id = format::id_of(kind);
-    if id == 2 {
-        return measure_fields(list, start, before, table, work, k, left);
+    match kind {
+        Kind::Object => measure_fields(list, start, before, table, work, k, left),
+        Kind::Array => measure_items(list, start, before, table, work, k, left),
+        _ => measured_leaf(frame::leaf_at(list, start, kind), at, before, k),
     }
-    if id == 4 {
-        return measure_items(list, start, before, table, work, k, left);
-    }
-    measured_leaf(frame::leaf_at(list, start, kind), at, before, k)
 }
 
 // The items of an array, up to the close. The name before it takes `before` bytes. (Most items are leaves: these are measured here, and only what has
@@ -132,62 +140,40 @@ fn measure_items(
     work: &mut [u32],
     k: usize,
     left: u32,
-) -> Measured
+) -> Result<Measured, Refused>
     requires { (at ≤ length list.now) × (before ≤ at) × (k < at) × Lent list.now at k }
     ensures { ContentsAt left list.now at before false k work.old work.new result }
 {
     let mut p = at;
     let mut j = k + 1;
-    let mut count: usize = 0;
-    let mut sum: usize = 0;
-    let mut shared: u8 = 0;
+    let mut contents = Contents {
+        shared: 0,
+        count: 0,
+        sum: 0,
+    };
     while p < list.len() {
         if list[p] == 0 {
-            return closed(false, shared, count, sum, p, before, work, k, j);
+            return Ok(contents.closed(false, p, before, work, k, j));
         }
-        match frame::front_at(list, p, false, left) {
-            Frame::Refused(refusal) => {
-                return Measured::Refused(refusal, p);
-            }
-            Frame::Read {
-                kind,
-                begin: _,
-                start,
-            } => {
-                count += 1;
-                if is_leaf(kind) {
-                    match frame::leaf_at(list, start, kind) {
-                        LeafFrame::Refused(refusal) => {
-                            return Measured::Refused(refusal, p);
-                        }
-                        LeafFrame::Read { end, id, size } => {
-                            sum += start - (p + 1) + size;
-                            p = end;
-                            shared = run::join(shared, id);
-                        }
-                    }
-                } else {
-                    match measure_payload(list, p, start, kind, table, work, j, left - 1) {
-                        Measured::Refused(refusal, place) => {
-                            return Measured::Refused(refusal, place);
-                        }
-                        Measured::Read {
-                            next,
-                            id,
-                            size,
-                            opened,
-                        } => {
-                            p = next;
-                            j = opened;
-                            sum += size;
-                            shared = run::join(shared, id);
-                        }
-                    }
-                }
-            }
-        }
+        let frame = match frame::front_at(list, p, false, left) {
+            Ok(frame) => frame,
+            Err(refusal) => return Err(refusal.at(p)),
+        };
+        let kind = frame.kind;
+        let start = frame.start;
+        let measured = if is_leaf(kind) {
+            measured_leaf(frame::leaf_at(list, start, kind), p, start - (p + 1), j)
+        } else {
+            measure_payload(list, p, start, kind, table, work, j, left - 1)
+        };
+        let field = measured?;
+        p = field.next;
+        j = field.opened;
+        contents.shared = run::join(contents.shared, field.id);
+        contents.count += 1;
+        contents.sum += field.size;
     }
-    Measured::Refused(Refusal::ListEnds, p)
+    Err(Refusal::ListEnds.at(p))
 }
 
 // The fields of an object, up to the close. Of fewer than two names none stands twice.
@@ -200,7 +186,7 @@ fn measure_fields(
     work: &mut [u32],
     k: usize,
     left: u32,
-) -> Measured
+) -> Result<Measured, Refused>
     requires { (at ≤ length list.now) × (before ≤ at) × (k < at) × Lent list.now at k }
     ensures { ContentsAt left list.now at before true k work.old work.new result }
 {
@@ -208,91 +194,69 @@ fn measure_fields(
     let mut j = k + 1;
     let mut notes = Notes::Few(0);
     let mut reach: usize = 0;
-    let mut count: usize = 0;
-    let mut sum: usize = 0;
-    let mut shared: u8 = 0;
+    let mut contents = Contents {
+        shared: 0,
+        count: 0,
+        sum: 0,
+    };
     while p < list.len() {
+        let few = contents.count < 2;
         if list[p] == 0 {
-            let done = closed(true, shared, count, sum, p, before, work, k, j);
-            if count < 2 {
+            let done = Ok(contents.closed(true, p, before, work, k, j));
+            if few {
                 return done;
             }
             return naming::ended(list, at, table, notes, reach, left, done);
         }
-        match frame::front_at(list, p, true, left) {
-            Frame::Refused(refusal) => {
-                let refused = Measured::Refused(refusal, p);
-                if count < 2 {
+        let frame = match frame::front_at(list, p, true, left) {
+            Ok(frame) => frame,
+            Err(refusal) => {
+                let refused = Err(refusal.at(p));
+                if few {
                     return refused;
                 }
                 return naming::ended(list, at, table, notes, reach, left, refused);
             }
-            Frame::Read { kind, begin, start } => {
-                notes = naming::note(list, at, table, notes, begin, start);
-                reach = p - at + 1;
-                count += 1;
-                if is_leaf(kind) {
-                    match frame::leaf_at(list, start, kind) {
-                        LeafFrame::Refused(refusal) => {
-                            let refused = Measured::Refused(refusal, p);
-                            return naming::ended(list, at, table, notes, reach, left, refused);
-                        }
-                        LeafFrame::Read { end, id, size } => {
-                            sum += start - (p + 1) + size;
-                            p = end;
-                            shared = run::join(shared, id);
-                        }
-                    }
-                } else {
-                    let held = notes::held(notes);
-                    match measure_payload(
-                        list,
-                        p,
-                        start,
-                        kind,
-                        &mut table[held..],
-                        work,
-                        j,
-                        left - 1,
-                    ) {
-                        Measured::Refused(refusal, place) => {
-                            let refused = Measured::Refused(refusal, place);
-                            return naming::ended(list, at, table, notes, reach, left, refused);
-                        }
-                        Measured::Read {
-                            next,
-                            id,
-                            size,
-                            opened,
-                        } => {
-                            p = next;
-                            j = opened;
-                            sum += size;
-                            shared = run::join(shared, id);
-                        }
-                    }
-                }
-            }
-        }
+        };
+        let kind = frame.kind;
+        let start = frame.start;
+        notes = naming::note(list, at, table, notes, frame.begin, start);
+        reach = p - at + 1;
+        let measured = if is_leaf(kind) {
+            measured_leaf(frame::leaf_at(list, start, kind), p, start - (p + 1), j)
+        } else {
+            let held = notes::held(notes);
+            measure_payload(list, p, start, kind, &mut table[held..], work, j, left - 1)
+        };
+        let Ok(field) = measured else {
+            return naming::ended(list, at, table, notes, reach, left, measured);
+        };
+        p = field.next;
+        j = field.opened;
+        contents.shared = run::join(contents.shared, field.id);
+        contents.count += 1;
+        contents.sum += field.size;
     }
-    let refused = Measured::Refused(Refusal::ListEnds, p);
+    let refused = Err(Refusal::ListEnds.at(p));
     naming::ended(list, at, table, notes, reach, left, refused)
 }
 
 // ---- the whole
 
 // The top field of a list that is not empty.
-fn measure_top(list: &[u8], table: &mut [u64], work: &mut [u32], left: u32) -> Measured
+#[tactic(auto, using(crate::proofs::FieldCases::top_laws))]
+fn measure_top(
+    list: &[u8],
+    table: &mut [u64],
+    work: &mut [u32],
+    left: u32,
+) -> Result<Measured, Refused>
     requires { (0 < length list.now) × Lent list.now 0 0 }
     ensures { FieldAt left list.now 0 false 0 work.old work.new result }
 {
     match frame::front_at(list, 0, false, left) {
-        Frame::Refused(refusal) => Measured::Refused(refusal, 0),
-        Frame::Read {
-            kind,
-            begin: _,
-            start,
-        } => measure_payload(list, 0, start, kind, table, work, 0, left - 1),
+        Ok(frame) => measure_payload(list, 0, frame.start, frame.kind, table, work, 0, left - 1),
+        Err(refusal) => Err(refusal.at(0)),
     }
 }
 
@@ -303,41 +267,35 @@ fn measure_within(
     work: &mut [u32],
     table: &mut [u64],
     left: u32,
-) -> Settled
+) -> Result<Settled, Refused>
     requires { length list.now ≤ 65536 }
     ensures { measurement result work.new ≡ settled_within left list.now room work.old }
 {
     container::clear(work);
-    if list.len() <= 0 {
-        return Settled::Refused(Refusal::ListEnds, 0);
+    if list.is_empty() {
+        return Err(Refusal::ListEnds.at(0));
     }
     if list[0] == 0 {
-        return Settled::Refused(Refusal::NoneOpen, 0);
+        return Err(Refusal::NoneOpen.at(0));
     }
     let measured = measure_top(list, table, work, left);
     let answer = settle::decided(measured, list.len(), room, work.len());
-    match answer {
-        Settled::Refused(refusal, place) => {
-            container::clear(work);
-            Settled::Refused(refusal, place)
-        }
-        Settled::Ready { id, length } => Settled::Ready {
-            id: id,
-            length: length,
-        },
+    if answer.is_err() {
+        container::clear(work);
     }
+    answer
 }
 
 // A list of up to so many bytes has few names: a small table does for them.
 const SHORT: usize = 1536;
 
 // The first pass over any list. The output has `room` bytes. What is left in the work numbers is for the second pass, or all zero at a refusal.
-pub fn measure(list: &[u8], room: usize, work: &mut [u32]) -> Settled
+pub fn measure(list: &[u8], room: usize, work: &mut [u32]) -> Result<Settled, Refused>
     ensures { measurement result work.new ≡ settled list.now room work.old }
 {
     if format::LENGTH < list.len() {
         container::clear(work);
-        return Settled::Refused(Refusal::ListTooLong, 0);
+        return Err(Refusal::ListTooLong.at(0));
     }
     if list.len() <= SHORT {
         let mut table = [0u64; 256];

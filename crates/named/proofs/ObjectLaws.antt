@@ -1,4 +1,5 @@
 -- The fields of an object with their names, as the loop reads and notes them.
+use Rattle.std.specs.Prelude.{Err, Ok, Result}
 use Prim.Native.Nat.{ℕ, ◌+◌, ◌-◌, ◌≤◌, ◌<◌}
 use native.Mathlib.Omega.{arith}
 use mathlib.Core.Path.{◌≡◌, refl, ap, ◌∙◌}
@@ -19,8 +20,8 @@ use Rattle.format.specs.Payload.{fields_in}
 use Rattle.front.specs.Between.{between}
 use Rattle.front.proofs.BetweenLaws.{rest_all}
 use Rattle.run.specs.Run.{join}
-use Rattle.names.specs.declared.Name.TheVariants as N
 use Rattle.names.specs.FieldNames as names
+use Rattle.names.specs.Made.{name_met}
 use Rattle.entries.specs.Entry.{entry_of}
 use Rattle.select.specs.declared.Source.TheVariants as S
 use Rattle.select.specs.Source.{Searched, first_twin}
@@ -30,14 +31,13 @@ use Rattle.notes.specs.declared.Notes.{Notes}
 use Rattle.notes.specs.declared.Notes.TheVariants.{Few}
 use Rattle.notes.specs.Notes.{held_in, Noting, noting, added, told}
 use Rattle.notes.proofs.NoteLaws.{Noted, noted_none, noted_held, noted_kept, noted_more, noted_told, added_length, told_length}
-use Rattle.contents.specs.declared.Contents.TheVariants as C
 use Rattle.contents.specs.Contents.{object_end}
 use Rattle.checks.specs.Checks.{contents_at}
 use Rattle.checks.proofs.LoopLaws.{Fields, fields_start, fields_out, fields_fault, fields_step, fields_end}
-use Rattle.named.specs.declared.Named.{Named}
-use Rattle.named.specs.declared.Named.TheVariants as D
 use Rattle.named.specs.Named.{named_at, field_in, noted_at, Kept}
 use Rattle.named.proofs.NamedCases.{named_field, named_inside, named_place}
+use Rattle.named.specs.declared.Named.{Named}
+use Rattle.named.specs.Made.{named_read}
 
 -- ---- one name more
 
@@ -69,7 +69,7 @@ module _ (f : Form) (m : Modes) (d : ℕ) (g : Faults) (s t₀ : List ℕ) where
     pub object_kept : Kept t₀ t
     object_kept = record { is = l.kept }
 
-    pub object_out : room ≡ 0 → at < length s → C.Stop Early ≡ contents_at (fields_in f s) m d g
+    pub object_out : room ≡ 0 → at < length s → Err Early ≡ contents_at (fields_in f s) m d g
     object_out z i = fields_out f m d g s at room h u l.fields z i
 
     module _ (held : ℕ) (z : held ≡ held_in n) where
@@ -100,40 +100,42 @@ module _ (f : Form) (m : Modes) (d : ℕ) (g : Faults) (s t₀ : List ℕ) where
         back_noted : Noted s l.met t₁ n
         back_noted = noted_kept s l.met t t₁ n l.noted back_length (rw (← z) back_front)
 
-        module _ (i : 0 < room) (j : at < length s) (x : Named) (e : x ≡ named_at f m d h (between at (length s) s)) where
-          pub object_fault : (k : Stop) → x ≡ D.Stop k → C.Stop k ≡ contents_at (fields_in f s) m d g
+        module _ (i : 0 < room) (j : at < length s) (x : Result Named Stop) (e : x ≡ named_at f m d h (between at (length s) s)) where
+          pub object_fault : (k : Stop) → x ≡ Err k → Err k ≡ contents_at (fields_in f s) m d g
           object_fault k q =
               fields_fault f m d g s at room h u l.fields i j (field_in x) (named_field f m h (between at (length s) s) d x e) k (ap field_in q)
 
-          module _ (k : Kind) (a : ℕ) (v : Faults) (b c : ℕ) (q : x ≡ D.Read k a v b c) where
-            stepped : Fields f m d g s (at + a) (room - 1) v (join u (id k))
-            stepped = fields_step f m d g s at room h u l.fields i j (field_in x) (named_field f m h (between at (length s) s) d x e) k a v (ap field_in q)
+          module _ (p : Named) (q : x ≡ Ok p) where
+            stepped : Fields f m d g s (at + p.end) (room - 1) p.faults (join u (id p.kind))
+            stepped =
+                fields_step f m d g s at room h u l.fields i j (field_in x) (named_field f m h (between at (length s) s) d x e)
+                (record { kind = p.kind; end = p.end; faults = p.faults }) (ap field_in q)
 
-            pub object_inside : at + a ≤ length s
+            pub object_inside : at + p.end ≤ length s
             object_inside = stepped.inside
 
-            pub object_name : b ≤ length s
-            object_name = let w = named_inside f m h (between at (length s) s) d x e k a v b c q in
+            pub object_name : p.name ≤ length s
+            object_name = let w = named_inside f m h (between at (length s) s) d x e p q in
                 omega (arith, w.0, ap length (rest_all at s) ∙ length-drop at s)
 
-            pub object_starts : c ≤ length s
-            object_starts = let w = named_inside f m h (between at (length s) s) d x e k a v b c q in
+            pub object_starts : p.start ≤ length s
+            object_starts = let w = named_inside f m h (between at (length s) s) d x e p q in
                 omega (arith, w.1, ap length (rest_all at s) ∙ length-drop at s)
 
-            place : names.name_at f at s ≡ names.behind at (names.ended_at b c a)
+            place : names.name_at f at s ≡ names.behind at (names.ended_at p.name p.start p.end)
             unfolding names.name_at
-            place = ap (names.behind at) (rw (rest_all at s) at (named_place f m h (between at (length s) s) d x e k a v b c q))
+            place = ap (names.behind at) (rw (rest_all at s) at (named_place f m h (between at (length s) s) d x e p q))
 
-            pub object_step : (t₂ : List ℕ) (n' : Notes) → noting n' t₂ ≡ noted_at s t₁ n at b c a → (u' : ℕ) → u' ≡ join u (id k)
-                → Object f m d g s t₀ t₂ (at + a) (room - 1) v u' n'
-            object_step t₂ n' w u' r = rw r (go (eqb a 0) refl w)
+            pub object_step : (t₂ : List ℕ) (n' : Notes) → noting n' t₂ ≡ noted_at s t₁ n at p.name p.start p.end → (u' : ℕ) → u' ≡ join u (id p.kind)
+                → Object f m d g s t₀ t₂ (at + p.end) (room - 1) p.faults u' n'
+            object_step t₂ n' w u' r = rw r (go (eqb p.end 0) refl w)
               where
-                go : (o : Bool) → eqb a 0 ≡ o → noting n' t₂ ≡ cond o (noting n t₁) (added s t₁ n (entry_of s (at + b) (at + c)))
-                    → Object f m d g s t₀ t₂ (at + a) (room - 1) v (join u (id k)) n'
+                go : (o : Bool) → eqb p.end 0 ≡ o → noting n' t₂ ≡ cond o (noting n t₁) (added s t₁ n (entry_of s (at + p.name) (at + p.start)))
+                    → Object f m d g s t₀ t₂ (at + p.end) (room - 1) p.faults (join u (id p.kind)) n'
                 go true o w =
                     let z₁ : n' ≡ n = ap (λ (y : Noting). y.notes) w in
                     let z₂ : t₂ ≡ t₁ = ap (λ (y : Noting). y.table) w in
-                    let z₃ : at + a ≡ at = omega (arith, eqb-true a 0 o) in
+                    let z₃ : at + p.end ≡ at = omega (arith, eqb-true p.end 0 o) in
                     record {
                       fields = stepped;
                       met = l.met;
@@ -142,21 +144,22 @@ module _ (f : Form) (m : Modes) (d : ℕ) (g : Faults) (s t₀ : List ℕ) where
                       kept = ap length z₂ ∙ back_length ∙ l.kept;
                     }
                 go false o w =
-                    let e₁ : names.name_at f at s ≡ N.At (at + b) (at + c) (at + a) = place ∙ rw o in
-                    let z₁ : n' ≡ (added s t₁ n (entry_of s (at + b) (at + c))).notes = ap (λ (y : Noting). y.notes) w in
-                    let z₂ : t₂ ≡ (added s t₁ n (entry_of s (at + b) (at + c))).table = ap (λ (y : Noting). y.table) w in
+                    let e₁ : names.name_at f at s ≡ name_met (at + p.name) (at + p.start) (at + p.end) = place ∙ rw o in
+                    let z₁ : n' ≡ (added s t₁ n (entry_of s (at + p.name) (at + p.start))).notes = ap (λ (y : Noting). y.notes) w in
+                    let z₂ : t₂ ≡ (added s t₁ n (entry_of s (at + p.name) (at + p.start))).table = ap (λ (y : Noting). y.table) w in
                     record {
                       fields = stepped;
-                      met = l.met ++ (entry_of s (at + b) (at + c) ∷ []);
-                      walked = walk_on (S.Fields f) s l.met at l.walked (names.name_at f at s) refl j (at + b) (at + c) (at + a) e₁;
-                      noted = rw (z₁, z₂) (noted_more s l.met t₁ n (entry_of s (at + b) (at + c)) back_noted);
-                      kept = ap length z₂ ∙ added_length s t₁ n (entry_of s (at + b) (at + c)) ∙ back_length ∙ l.kept;
+                      met = l.met ++ (entry_of s (at + p.name) (at + p.start) ∷ []);
+                      walked = walk_on (S.Fields f) s l.met at l.walked (names.name_at f at s) refl j
+                          (record { begin = at + p.name; end = at + p.start; next = at + p.end }) e₁;
+                      noted = rw (z₁, z₂) (noted_more s l.met t₁ n (entry_of s (at + p.name) (at + p.start)) back_noted);
+                      kept = ap length z₂ ∙ added_length s t₁ n (entry_of s (at + p.name) (at + p.start)) ∙ back_length ∙ l.kept;
                     }
 
     -- the end
     pub object_end_law : length s < 16777216 → length s ≤ at → (r : ℕ) (t₁ : List ℕ) → ◌≡◌ {A = Searched} (record { answer = r; table = t₁ })
         (told (S.Fields f) s t n)
-        → (v : Faults) → v ≡ object_end f m h u (ltb r 16777216) → C.Read v ≡ contents_at (fields_in f s) m d g
+        → (v : Faults) → v ≡ object_end f m h u (ltb r 16777216) → Ok v ≡ contents_at (fields_in f s) m d g
     object_end_law short i r t₁ w v e =
         let a : r ≡ first_twin (S.Fields f) s =
         ap (λ (y : Searched). y.answer) w ∙ noted_told (S.Fields f) s l.met t n l.noted (walk_ends (S.Fields f) s l.met at l.walked i) in
@@ -165,3 +168,5 @@ module _ (f : Form) (m : Modes) (d : ℕ) (g : Faults) (s t₀ : List ℕ) where
 
     pub object_lent : (r : ℕ) (t₁ : List ℕ) → ◌≡◌ {A = Searched} (record { answer = r; table = t₁ }) (told (S.Fields f) s t n) → Kept t₀ t₁
     object_lent r t₁ w = record { is = ap (λ (y : Searched). length y.table) w ∙ told_length (S.Fields f) s t n ∙ l.kept }
+
+pub ruleset note_laws = (note_none, note_some)

@@ -9,7 +9,7 @@ ghost use Rattle.checks.specs.Checks.{contents_at};
 ghost use Rattle.named.specs.Top.{top_at, top_within, top_with};
 ghost use Rattle.named.specs.Named.{named_by, named_at, noted_at, field_in, Kept};
 
-use contents::{Contents, Field};
+use contents::Field;
 use faults::{Faults, Modes};
 use format::{Form, Kind, Stop};
 use head::Met;
@@ -18,33 +18,34 @@ use select::Source;
 
 // A field, and where its name begins and its payload starts.
 #[derive(Clone, Copy)]
-pub enum Named {
-    Stop(Stop),
-    Read {
-        kind: Kind,
-        end: usize,
-        faults: Faults,
-        name: usize,
-        start: usize,
-    },
+pub struct Named {
+    pub kind: Kind,
+    pub end: usize,
+    pub faults: Faults,
+    pub name: usize,
+    pub start: usize,
 }
 
-fn close(contents: Contents, kind: Kind, end: usize, name: usize, start: usize) -> Named
+fn close(
+    contents: Result<Faults, Stop>,
+    kind: Kind,
+    end: usize,
+    name: usize,
+    start: usize,
+) -> Result<Named, Stop>
     ensures { result ≡ named_by name start (closed kind end contents) }
 {
-    match contents {
-        Contents::Stop(stop) => Named::Stop(stop),
-        Contents::Read(faults) => Named::Read {
-            kind: kind,
-            end: end,
-            faults: faults,
-            name: name,
-            start: start,
-        },
-    }
+    Ok(Named {
+        kind,
+        end,
+        faults: contents?,
+        name,
+        start,
+    })
 }
 
 // The name of a field that stands at a position and took so many bytes. (One that takes none is no field of an object.)
+#[tactic(auto, using(crate::proofs::ObjectLaws::note_laws))]
 fn note(
     part: &[u8],
     table: &mut [u64],
@@ -77,38 +78,38 @@ fn check_field(
     left: usize,
     faults: Faults,
     table: &mut [u64],
-) -> Named
+) -> Result<Named, Stop>
     requires { length part.now < 16777216 }
     ensures { (result ≡ named_at form modes left faults part.now) × Kept table.old table.new }
 {
     if left == 0 {
-        return Named::Stop(Stop::TooDeep);
+        return Err(Stop::TooDeep);
     }
-    match head::meet_of(&part[0..], form, modes, faults) {
-        Met::Stop(stop) => Named::Stop(stop),
+    let met = head::meet_of(&part[0..], form, modes, faults)?;
+    match met {
         Met::Leaf {
             kind,
             name,
             start,
             end,
-            faults: met,
-        } => Named::Read {
-            kind: kind,
-            end: end,
-            faults: met,
-            name: name,
-            start: start,
-        },
+            faults,
+        } => Ok(Named {
+            kind,
+            end,
+            faults,
+            name,
+            start,
+        }),
         Met::Fields {
             kind,
             name,
             start,
-            form: inner,
+            form,
             begin,
             end,
-            faults: met,
+            faults,
         } => close(
-            check_object(&part[begin..end], inner, modes, left - 1, met, table),
+            check_object(&part[begin..end], form, modes, left - 1, faults, table),
             kind,
             end,
             name,
@@ -118,13 +119,21 @@ fn check_field(
             kind,
             name,
             start,
-            form: inner,
+            form,
             count,
             begin,
             end,
-            faults: met,
+            faults,
         } => close(
-            check_array(&part[begin..end], inner, count, modes, left - 1, met, table),
+            check_array(
+                &part[begin..end],
+                form,
+                count,
+                modes,
+                left - 1,
+                faults,
+                table,
+            ),
             kind,
             end,
             name,
@@ -142,41 +151,30 @@ fn check_object(
     left: usize,
     faults: Faults,
     table: &mut [u64],
-) -> Contents
+) -> Result<Faults, Stop>
     requires { length part.now < 16777216 }
     ensures { (result ≡ contents_at (fields_in form part.now) modes left faults) × Kept table.old table.new }
 {
     let mut at = 0;
+    // No `for` over the bytes: a turn takes a field, and `room` only says that there is an end.
     let mut room = part.len();
     let mut met = faults;
     let mut run: u8 = 0;
     let mut notes = Notes::Few(0);
     while at < part.len() {
         if room == 0 {
-            return Contents::Stop(Stop::Early);
+            return Err(Stop::Early);
         }
         let held = notes::held(notes);
-        match check_field(&part[at..], form, modes, left, met, &mut table[held..]) {
-            Named::Stop(stop) => {
-                return Contents::Stop(stop);
-            }
-            Named::Read {
-                kind,
-                end,
-                faults: next,
-                name,
-                start,
-            } => {
-                notes = note(part, table, notes, at, name, start, end);
-                run = run::add(run, kind);
-                met = next;
-                at += end;
-                room -= 1;
-            }
-        }
+        let field = check_field(&part[at..], form, modes, left, met, &mut table[held..])?;
+        notes = note(part, table, notes, at, field.name, field.start, field.end);
+        run = run::add(run, field.kind);
+        met = field.faults;
+        at += field.end;
+        room -= 1;
     }
     let first = notes::first_twin(part, Source::Fields(form), table, notes);
-    Contents::Read(contents::end_object(form, modes, met, run, first < 16777216))
+    Ok(contents::end_object(form, modes, met, run, first < 16777216))
 }
 
 // The items of an array, which fill the part. They have no names.
@@ -189,7 +187,7 @@ fn check_array(
     left: usize,
     faults: Faults,
     table: &mut [u64],
-) -> Contents
+) -> Result<Faults, Stop>
     requires { length part.now < 16777216 }
     ensures { (result ≡ contents_at (items_in form count part.now) modes left faults) × Kept table.old table.new }
 {
@@ -198,57 +196,36 @@ fn check_array(
         return contents::check_sizes(part.len(), count, size, left, faults);
     }
     let mut at = 0;
-    let mut room = count;
     let mut met = faults;
     let mut run: u8 = 0;
-    while 0 < room {
-        match check_field(&part[at..], form, modes, left, met, table) {
-            Named::Stop(stop) => {
-                return Contents::Stop(stop);
-            }
-            Named::Read {
-                kind,
-                end,
-                faults: next,
-                name: _,
-                start: _,
-            } => {
-                run = run::add(run, kind);
-                met = next;
-                at += end;
-                room -= 1;
-            }
-        }
+    for read in 0..count {
+        let field = check_field(&part[at..], form, modes, left, met, table)?;
+        run = run::add(run, field.kind);
+        met = field.faults;
+        at += field.end;
     }
     if at < part.len() {
-        return Contents::Stop(Stop::Early);
+        return Err(Stop::Early);
     }
-    Contents::Read(contents::end_array(form, modes, met, run))
+    Ok(contents::end_array(form, modes, met, run))
 }
 
-fn unnamed(named: Named) -> Field
+fn unnamed(named: Result<Named, Stop>) -> Result<Field, Stop>
     ensures { result ≡ field_in named }
 {
-    match named {
-        Named::Stop(stop) => Field::Stop(stop),
-        Named::Read {
-            kind,
-            end,
-            faults,
-            name: _,
-            start: _,
-        } => Field::Read {
-            kind: kind,
-            end: end,
-            faults: faults,
-        },
-    }
+    let field = named?;
+    Ok(Field {
+        kind: field.kind,
+        end: field.end,
+        faults: field.faults,
+    })
 }
 
 // ---- the top field
 
 // Names are noted in a table.
-fn top(payload: &[u8], modes: Modes, table: &mut [u64]) -> Field
+#[tactic(auto, using(crate::proofs::TopReturns::with_laws))]
+fn top(payload: &[u8], modes: Modes, table: &mut [u64]) -> Result<Field, Stop>
     requires { length payload.now ≤ length_limit }
     ensures { (result ≡ top_at modes payload.now) × Kept table.old table.new }
 {
@@ -266,12 +243,12 @@ fn top(payload: &[u8], modes: Modes, table: &mut [u64]) -> Field
 // The check of a payload's top field, in a table of its own. A longer payload is given a larger one. The largest holds all names of a payload within the
 // limit that differ from one another: there are at most 21,929 (behind five bytes, one of no byte, 256 of one, the others of two, a length before each).
 #[tactic(auto, using(crate::proofs::TopReturns::laws))]
-pub fn check(payload: &[u8], modes: Modes) -> Field
+pub fn check(payload: &[u8], modes: Modes) -> Result<Field, Stop>
     ensures { result ≡ top_within modes payload.now }
 {
     let size = payload.len();
     if format::LENGTH < size {
-        return Field::Stop(Stop::TooLong);
+        return Err(Stop::TooLong);
     }
     if size <= 256 {
         let mut table = [0u64; 64];
@@ -292,12 +269,13 @@ pub fn check(payload: &[u8], modes: Modes) -> Field
 // The same with a table that is lent, of any length; it holds zeros afterwards. The names of an object are looked at once, if there are at most 16 of them or
 // they ascend. Else they are looked at once more, if the table has a number for each of them behind the notes of the objects around it, which take up to 16
 // each; with a shorter table, again for each part of them that it holds, and with next to none, for each part that 64 numbers hold.
-pub fn check_with(payload: &[u8], modes: Modes, table: &mut [u64]) -> Field
+#[tactic(auto, using(crate::proofs::TopReturns::with_laws))]
+pub fn check_with(payload: &[u8], modes: Modes, table: &mut [u64]) -> Result<Field, Stop>
     ensures { record { answer = result; table = table.new } ≡ top_with modes payload.now table.old }
 {
     if format::LENGTH < payload.len() {
         entries::clear(table);
-        return Field::Stop(Stop::TooLong);
+        return Err(Stop::TooLong);
     }
     let answer = top(payload, modes, table);
     entries::clear(table);

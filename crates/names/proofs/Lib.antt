@@ -1,3 +1,4 @@
+pub mod MadeLaws
 pub mod NameBound
 pub mod NameFound
 pub mod NameApart

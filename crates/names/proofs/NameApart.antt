@@ -1,5 +1,6 @@
 -- Where names begin: each behind the one before it. A name has a byte before it, its length or a type; only an item of a uniform array has none, and takes
 -- a byte itself.
+use Rattle.std.specs.Prelude.{Option, None, Some}
 use Prim.Native.Nat.{ℕ, suc, ◌+◌, ◌-◌, ◌≤◌, ◌<◌}
 use native.Mathlib.Omega.{arith}
 use mathlib.Core.Path.{◌≡◌, refl, sym, ap}
@@ -18,18 +19,17 @@ use Rattle.format.specs.declared.Flaw.{Flaw}
 use Rattle.format.specs.declared.Flaw.TheVariants.{Blank, NotUtf8}
 use Rattle.format.specs.Parse.{Out, fault, got, bind, sized, rest}
 use Rattle.format.specs.Names.{is_empty, read_text, read_name}
-use Rattle.format.specs.declared.Known.{Known}
-use Rattle.format.specs.declared.Known.TheVariants.{Unknown, Is}
 use Rattle.format.specs.Kinds.{kind_at}
 use Rattle.format.specs.Payload.{kind_found, read_type, front, Head, head}
 use Rattle.head.specs.Code.{meeting}
 use Rattle.format.proofs.Back.{never}
 use Rattle.format.proofs.Local.{bind_got, raise_got, sized_got}
 use Rattle.format.proofs.HeadParts.{front_takes}
-use Rattle.names.specs.declared.Name.{Name}
-use Rattle.names.specs.declared.Name.TheVariants as N
 use Rattle.names.specs.FieldNames.{name_in, behind, name_at}
+use Rattle.names.specs.Made.{name_met}
+use Rattle.names.proofs.MadeLaws.{name_same}
 use Rattle.names.proofs.NameFound.{name_found_law}
+use Rattle.names.specs.declared.Name.{Name}
 
 -- how many bytes there are before a name at least
 abbrev pub lead : Form → ℕ
@@ -57,9 +57,9 @@ shorter : (m : Mark) (s : List ℕ) {k : Kind} {fs : List Flaw} {q : List ℕ} �
 shorter m [] h = never h
 shorter m (b ∷ s) {k} {fs} {q} h = go (kind_at m b) h
   where
-    go : (o : Known) → kind_found o s ≡ got k fs q → length q ≤ suc (length s)
-    go Unknown h = never h
-    go (Is l) h = let z : s ≡ q = cc in rw z (omega arith)
+    go : (o : Option Kind) → kind_found o s ≡ got k fs q → length q ≤ suc (length s)
+    go None h = never h
+    go (Some l) h = let z : s ≡ q = cc in rw z (omega arith)
 
 front_leads : (f : Form) (s : List ℕ) {x : List ℕ × Kind} {fs : List Flaw} {q : List ℕ} → front f s ≡ got x fs q → lead f + (length x.0 + length q) ≤
     length s
@@ -96,10 +96,10 @@ item_begins k s {x} {fs} {r} h = bind_got (front (G.SharedItem k) s) _ h λ y es
     rw z (sym w)
 
 -- what a name found says of where it begins
-apart_front : (f : Form) (s : List ℕ) {b e n : ℕ} → name_in (length s) (meeting f s) ≡ N.At b e n → (lead f ≤ b) × (b < lead f + n)
+apart_front : (f : Form) (s : List ℕ) {b e n : ℕ} → name_in (length s) (meeting f s) ≡ name_met b e n → (lead f ≤ b) × (b < lead f + n)
 apart_front f s {b} {e} {n} found = at (meeting f s) refl found
   where
-    at : (o : Out ((List ℕ × Kind) × (List ℕ × Head))) → meeting f s ≡ o → name_in (length s) o ≡ N.At b e n → (lead f ≤ b) × (b < lead f + n)
+    at : (o : Out ((List ℕ × Kind) × (List ℕ × Head))) → meeting f s ≡ o → name_in (length s) o ≡ name_met b e n → (lead f ≤ b) × (b < lead f + n)
     at (fault k) y h = clash cc
     at (got x fs r) y h = go (eqb (length s - length r) 0) refl h
       where
@@ -112,23 +112,21 @@ apart_front f s {b} {e} {n} found = at (meeting f s) refl found
         ends (G.SharedItem k) y i j l p = (omega arith, omega (arith, ap length (item_begins k s y)))
 
         go : (t : Bool) → eqb (length s - length r) 0 ≡ t
-            → cond t N.Nothing (N.At (length s - length x.1.0 - length x.0.0) (length s - length x.1.0) (length s - length r)) ≡ N.At b e n
+            → cond t None (name_met (length s - length x.1.0 - length x.0.0) (length s - length x.1.0) (length s - length r)) ≡ name_met b e n
             → (lead f ≤ b) × (b < lead f + n)
         go true q h = clash cc
         go false q h =
-            let i : length s - length x.1.0 - length x.0.0 ≡ b = cc in
-            let k : length s - length r ≡ n = cc in
+            let z = name_same h in
             let w = name_found_law f s found in
-            ends f y i k (omega (arith, w.ordered, w.before)) (omega (arith, w.onward))
+            ends f y z.0 z.2 (omega (arith, w.ordered, w.before)) (omega (arith, w.onward))
 
-pub name_apart : (f : Form) (s : List ℕ) (a b e n : ℕ) → name_at f a s ≡ N.At b e n → (lead f + a ≤ b) × (b < lead f + n)
+pub name_apart : (f : Form) (s : List ℕ) (a : ℕ) (p : Name) → name_at f a s ≡ Some p → (lead f + a ≤ p.begin) × (p.begin < lead f + p.next)
 unfolding name_at
-name_apart f s a b e n h = at (name_in (length (drop a s)) (meeting f (drop a s))) refl h
+name_apart f s a p h = at (name_in (length (drop a s)) (meeting f (drop a s))) refl h
   where
-    at : (y : Name) → name_in (length (drop a s)) (meeting f (drop a s)) ≡ y → behind a y ≡ N.At b e n → (lead f + a ≤ b) × (b < lead f + n)
-    at N.Nothing i h = clash cc
-    at (N.At b' e' n') i h =
+    at : (y : Option Name) → name_in (length (drop a s)) (meeting f (drop a s)) ≡ y → behind a y ≡ Some p → (lead f + a ≤ p.begin) × (p.begin < lead f + p.next)
+    at None i h = clash cc
+    at (Some q) i h =
         let w = apart_front f (drop a s) i in
-        let p : a + b' ≡ b = cc in
-        let q : a + n' ≡ n = cc in
-        (omega (arith, w.0), omega (arith, w.1))
+        let z = name_same h in
+        (omega (arith, w.0, z.0), omega (arith, w.1, z.0, z.2))

@@ -50,6 +50,6 @@ names_step f (c ∷ s) =
 
 -- ---- what was met
 
-pub name_met : (f : Form) (s : List ℕ) {x : (List ℕ × Kind) × (List ℕ × Head)} {fs : List Flaw} {r : List ℕ} → meeting f s ≡ got x fs r → length r < length s
+pub met_first : (f : Form) (s : List ℕ) {x : (List ℕ × Kind) × (List ℕ × Head)} {fs : List Flaw} {r : List ℕ} → meeting f s ≡ got x fs r → length r < length s
     → field_names f s ≡ x.0.0 ∷ field_names f r
-name_met f s {x} {fs} {r} e l = names_step f s ∙ rw (e, lt-ltb (length r) (length s) l)
+met_first f s {x} {fs} {r} e l = names_step f s ∙ rw (e, lt-ltb (length r) (length s) l)

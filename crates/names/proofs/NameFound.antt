@@ -1,4 +1,6 @@
 -- Where a field's name stands in a part, and what the code's answers at a position say of it.
+use Rattle.std.specs.Prelude.{Err, Ok, Result, Some, None, Option}
+use Rattle.std.specs.Result.{result_ok}
 use Prim.Native.Nat.{ℕ, ◌+◌, ◌-◌, ◌≤◌, ◌<◌}
 use native.Mathlib.Omega.{arith}
 use mathlib.Core.Path.{◌≡◌, refl, sym, ap, ◌∙◌}
@@ -13,9 +15,8 @@ use Rattle.format.specs.declared.Kind.{Kind}
 use Rattle.format.specs.declared.Form.{Form}
 use Rattle.faults.specs.declared.Modes.{Modes}
 use Rattle.faults.specs.declared.Faults.{Faults}
-use Rattle.head.specs.declared.Met.{Met}
-use Rattle.head.specs.declared.Met.TheVariants as M
 use Rattle.format.specs.declared.Flaw.{Flaw}
+use Rattle.format.specs.declared.Stop.{Stop}
 use Rattle.format.specs.Parse.{Out, fault, got}
 use Rattle.format.specs.Payload.{front, Head, value, fields_in, items_in, head}
 use Rattle.front.specs.Code.{answer_of}
@@ -24,10 +25,12 @@ use Rattle.front.specs.Between.{between}
 use Rattle.format.proofs.Local.{bind_got}
 use Rattle.format.proofs.HeadParts.{local_head, Fronted, front_takes}
 use Rattle.front.proofs.BetweenLaws.{end_drop, rest_all}
-use Rattle.names.specs.declared.Name.{Name}
-use Rattle.names.specs.declared.Name.TheVariants as N
 use Rattle.names.specs.FieldNames.{names_after, field_names, ended_at, name_of, name_in, behind, name_at}
-use Rattle.names.proofs.NameBound.{names_step, name_met}
+use Rattle.names.specs.Made.{name_met}
+use Rattle.names.proofs.MadeLaws.{name_same}
+use Rattle.names.proofs.NameBound.{names_step, met_first}
+use Rattle.head.specs.declared.Met.{Met}
+use Rattle.names.specs.declared.Name.{Name}
 
 met_parts : (f : Form) (s : List ℕ) {x : (List ℕ × Kind) × (List ℕ × Head)} {fs : List Flaw} {r : List ℕ} → meeting f s ≡ got x fs r
     → Fronted s x.0 x.1.0 × ((u : List ℕ) × (x.1.0 ≡ u ++ r))
@@ -57,37 +60,35 @@ found_front f s w m q u r e i l j =
     let h : s ≡ (w ++ (m ++ u)) ++ r = rw (append_assoc w (m ++ u) r, append_assoc m u r, ← i) e in
     record { ordered = omega arith; before = omega arith; inside = omega arith; onward = omega arith; names = rw (b, k, end_drop s (w ++ (m ++ u)) r h) j }
 
-name_none : (f : Form) (s : List ℕ) → name_in (length s) (meeting f s) ≡ N.Nothing → field_names f s ≡ []
+name_none : (f : Form) (s : List ℕ) → name_in (length s) (meeting f s) ≡ None → field_names f s ≡ []
 name_none f s h = names_step f s ∙ at (meeting f s) h
   where
-    at : (o : Out ((List ℕ × Kind) × (List ℕ × Head))) → name_in (length s) o ≡ N.Nothing → names_after (length s) o (field_names f) ≡ []
+    at : (o : Out ((List ℕ × Kind) × (List ℕ × Head))) → name_in (length s) o ≡ None → names_after (length s) o (field_names f) ≡ []
     at (fault k) h = refl
     at (got x fs r) h = go (eqb (length s - length r) 0) refl h
       where
         go : (t : Bool) → eqb (length s - length r) 0 ≡ t
-            → cond t N.Nothing (N.At (length s - length x.1.0 - length x.0.0) (length s - length x.1.0) (length s - length r)) ≡ N.Nothing
+            → cond t None (name_met (length s - length x.1.0 - length x.0.0) (length s - length x.1.0) (length s - length r)) ≡ None
             → names_after (length s) (got x fs r) (field_names f) ≡ []
         go true q h = rw (le-ltb (length r) (length s) (omega (arith, eqb-true (length s - length r) 0 q)))
         go false q h = clash cc
 
-pub name_found_law : (f : Form) (s : List ℕ) {b e n : ℕ} → name_in (length s) (meeting f s) ≡ N.At b e n → Found f s 0 b e n
+pub name_found_law : (f : Form) (s : List ℕ) {b e n : ℕ} → name_in (length s) (meeting f s) ≡ name_met b e n → Found f s 0 b e n
 name_found_law f s {b} {e} {n} h = at (meeting f s) refl h
   where
-    at : (o : Out ((List ℕ × Kind) × (List ℕ × Head))) → meeting f s ≡ o → name_in (length s) o ≡ N.At b e n → Found f s 0 b e n
+    at : (o : Out ((List ℕ × Kind) × (List ℕ × Head))) → meeting f s ≡ o → name_in (length s) o ≡ name_met b e n → Found f s 0 b e n
     at (fault k) y h = clash cc
     at (got x fs r) y h = go (eqb (length s - length r) 0) refl h
       where
         go : (t : Bool) → eqb (length s - length r) 0 ≡ t
-            → cond t N.Nothing (N.At (length s - length x.1.0 - length x.0.0) (length s - length x.1.0) (length s - length r)) ≡ N.At b e n
+            → cond t None (name_met (length s - length x.1.0 - length x.0.0) (length s - length x.1.0) (length s - length r)) ≡ name_met b e n
             → Found f s 0 b e n
         go true q h = clash cc
         go false q h =
             let p = met_parts f s y in
             let l : length r < length s = omega (arith, eqb-false (length s - length r) 0 q) in
-            let i : length s - length x.1.0 - length x.0.0 ≡ b = cc in
-            let j : length s - length x.1.0 ≡ e = cc in
-            let k : length s - length r ≡ n = cc in
-            rw (← i, ← j, ← k) (found_front f s p.0.0 x.0.0 x.1.0 p.1.0 r p.0.1 p.1.1 l (name_met f s y l))
+            let z = name_same h in
+            rw (← z.0, ← z.1, ← z.2) (found_front f s p.0.0 x.0.0 x.1.0 p.1.0 r p.0.1 p.1.1 l (met_first f s y l))
 
 -- ---- the name at a position
 
@@ -100,64 +101,80 @@ name_is f m g s = at (meeting f s)
     by k a b (fields_in o c) h e = refl
     by k a b (items_in o n c) h e = refl
 
-    at : (o : Out ((List ℕ × Kind) × (List ℕ × Head))) → name_of (answer_of M.Stop (met_in (length s)) m g o) ≡ name_in (length s) o
+    at : (o : Out ((List ℕ × Kind) × (List ℕ × Head))) → name_of (answer_of Err (met_in (length s)) m g o) ≡ name_in (length s) o
     at (fault k) = refl
     at (got x fs r) = by x.0.1 _ _ x.1.1 _ _
 
 -- what the code knows of the field at a: what was met, and its name
-module _ (f : Form) (m : Modes) (g : Faults) (s : List ℕ) (a : ℕ) (x : Met) (e : x ≡ meet_at f m g (between a (length s) s)) (y : Name) (i : y ≡ name_of x) where
-  met_name : y ≡ name_in (length (drop a s)) (meeting f (drop a s))
-  met_name = rw (rest_all a s) at (i ∙ ap name_of e ∙ name_is f m g (between a (length s) s))
+module _ (f : Form) (m : Modes) (g : Faults) (s : List ℕ) (a : ℕ) (x : Result Met Stop) (e : x ≡ meet_at f m g (between a (length s) s)) (o : Option Met)
+    (w : o ≡ result_ok x) where
+  met_name : name_of x ≡ name_in (length (drop a s)) (meeting f (drop a s))
+  met_name = rw (rest_all a s) at (ap name_of e ∙ name_is f m g (between a (length s) s))
 
-  pub name_at_none : y ≡ N.Nothing → N.Nothing ≡ name_at f a s
+  behind_name : behind a (name_of x) ≡ name_at f a s
   unfolding name_at
-  name_at_none z = ap (behind a) (sym z ∙ met_name)
+  behind_name = ap (behind a) met_name
 
-  module _ (b t n : ℕ) (z : y ≡ N.At b t n) where
-    pub name_at_some : N.At (a + b) (a + t) (a + n) ≡ name_at f a s
-    unfolding name_at
-    name_at_some = ap (behind a) (sym z ∙ met_name)
+  pub name_unmet : (r : Option Name) → o ≡ None → r ≡ None → r ≡ name_at f a s
+  name_unmet r z v = v ∙ go x (sym z ∙ w) ∙ behind_name
+    where
+      go : (x : Result Met Stop) → None ≡ result_ok x → None ≡ behind a (name_of x)
+      go (Err j) h = refl
+      go (Ok t) h = clash cc
 
-    pub name_at_inside : a ≤ length s → (b ≤ n) × (t ≤ n) × (a + n ≤ length s)
-    name_at_inside l =
-        let w = name_found_law f (drop a s) (sym met_name ∙ z) in
-        (omega arith, omega arith, omega (arith, length-drop a s))
+  module _ (t : Met) (z : o ≡ Some t) (y : Option Name) (i : y ≡ name_of (Ok t)) where
+    of_met : y ≡ name_of x
+    of_met = i ∙ go x (sym z ∙ w)
+      where
+        go : (x : Result Met Stop) → Some t ≡ result_ok x → name_of (Ok t) ≡ name_of x
+        go (Err j) h = clash cc
+        go (Ok u) h = let v : t ≡ u = cc in ap (λ u. name_of (Ok u)) v
+
+    pub name_unnamed : (r : Option Name) → y ≡ None → r ≡ None → r ≡ name_at f a s
+    name_unnamed r v h = h ∙ ap (behind a) (sym v ∙ of_met) ∙ behind_name
+
+    module _ (p : Name) (v : y ≡ Some p) where
+      pub name_at_some : name_met (a + p.begin) (a + p.end) (a + p.next) ≡ name_at f a s
+      name_at_some = ap (behind a) (sym v ∙ of_met) ∙ behind_name
+
+      pub name_at_inside : a ≤ length s → (p.begin ≤ p.next) × (p.end ≤ p.next) × (a + p.next ≤ length s)
+      name_at_inside l =
+          let w = name_found_law f (drop a s) (sym met_name ∙ sym of_met ∙ v) in
+          (omega arith, omega arith, omega (arith, length-drop a s))
 
 -- at the end and behind it
-pub name_at_past : (f : Form) (s : List ℕ) (a : ℕ) → length s ≤ a → N.Nothing ≡ name_at f a s
+pub name_at_past : (f : Form) (s : List ℕ) (a : ℕ) → length s ≤ a → None ≡ name_at f a s
 unfolding name_at
 name_at_past f s a l = rw (drop_of_length-le s {i = a} l) (at (meeting f []))
   where
-    at : (o : Out ((List ℕ × Kind) × (List ℕ × Head))) → N.Nothing ≡ behind a (name_in 0 o)
+    at : (o : Out ((List ℕ × Kind) × (List ℕ × Head))) → None ≡ behind a (name_in 0 o)
     at (fault k) = refl
     at (got x fs r) = rw (let z : 0 - length r ≡ 0 = omega arith in z)
 
-module _ (f : Form) (s : List ℕ) (a : ℕ) (x : Name) (e : x ≡ name_at f a s) where
-  pub none_at : x ≡ N.Nothing → field_names f (drop a s) ≡ []
+module _ (f : Form) (s : List ℕ) (a : ℕ) (x : Option Name) (e : x ≡ name_at f a s) where
+  pub none_at : x ≡ None → field_names f (drop a s) ≡ []
   unfolding name_at
   none_at z = name_none f (drop a s) (at (name_in (length (drop a s)) (meeting f (drop a s))) (sym e ∙ z))
     where
-      at : (y : Name) → behind a y ≡ N.Nothing → y ≡ N.Nothing
-      at N.Nothing h = refl
-      at (N.At b t n) h = clash cc
+      at : (y : Option Name) → behind a y ≡ None → y ≡ None
+      at None h = refl
+      at (Some p) h = clash cc
 
-  pub found_at : a ≤ length s → (b t n : ℕ) → x ≡ N.At b t n → Found f s a b t n
+  pub found_at : a ≤ length s → (p : Name) → x ≡ Some p → Found f s a p.begin p.end p.next
   unfolding name_at
-  found_at l b t n z = at (name_in (length (drop a s)) (meeting f (drop a s))) refl (sym e ∙ z)
+  found_at l p z = at (name_in (length (drop a s)) (meeting f (drop a s))) refl (sym e ∙ z)
     where
-      at : (y : Name) → name_in (length (drop a s)) (meeting f (drop a s)) ≡ y → behind a y ≡ N.At b t n → Found f s a b t n
-      at N.Nothing h i = clash cc
-      at (N.At b' t' n') h i =
+      at : (y : Option Name) → name_in (length (drop a s)) (meeting f (drop a s)) ≡ y → behind a y ≡ Some p → Found f s a p.begin p.end p.next
+      at None h i = clash cc
+      at (Some q) h i =
           let w = name_found_law f (drop a s) h in
-          let p : a + b' ≡ b = cc in
-          let q : a + t' ≡ t = cc in
-          let k : a + n' ≡ n = cc in
-          let d : a + t' - (a + b') ≡ t' - b' = omega arith in
-          rw (← p, ← q, ← k)
+          let z = name_same i in
+          let d : a + q.end - (a + q.begin) ≡ q.end - q.begin = omega arith in
+          rw (← z.0, ← z.1, ← z.2)
           (record {
             ordered = omega arith;
             before = omega arith;
             inside = omega (arith, length-drop a s);
             onward = omega arith;
-            names = rw (d, ← drop-drop b' a s, ← drop-drop n' a s) w.names;
+            names = rw (d, ← drop-drop q.begin a s, ← drop-drop q.next a s) w.names;
           })

@@ -16,7 +16,7 @@ use Rattle.format.proofs.Back.{never}
 use Rattle.format.proofs.Local.{bind_got, whole_got, with_put}
 use Rattle.format.proofs.HeadParts.{local_head, front_takes}
 use Rattle.names.specs.FieldNames.{names_at, field_names}
-use Rattle.names.proofs.NameBound.{name_met}
+use Rattle.names.proofs.NameBound.{met_first}
 
 -- ---- the names that the reader gives
 
@@ -32,7 +32,7 @@ read_name_law (suc d) f s {x} {fs} {r} h l =
     let m : v ≡ r = cc in
     let a : (List ℕ × Kind) × (List ℕ × Head) = (y, (u, k)) in
     let o : meeting f s ≡ got a (es ++ (ks ++ [])) v = rw (e, j, with_put ks [] a v, with_put es (ks ++ []) a v) in
-    rw (n, ← m) (name_met f s o (rw m l))
+    rw (n, ← m) (met_first f s o (rw m l))
   where
     name_in_law : {A : Type 0} → Out (Named A) → List ℕ → List ℕ
     name_in_law (fault k) m = m

@@ -1,5 +1,6 @@
 -- A name noted, and an object's end: what the code answers at each return.
-use Prim.Native.Nat.{ℕ, ◌+◌, ◌-◌, ◌≤◌, ◌<◌}
+use Rattle.std.specs.Prelude.{Result, Err}
+use Prim.Native.Nat.{ℕ, min, ◌+◌, ◌-◌, ◌≤◌, ◌<◌}
 use native.Mathlib.Omega.{arith}
 use mathlib.Core.Path.{◌≡◌, refl, sym, ap, ◌∙◌}
 use mathlib.Core.Bool.{Bool, true, false, cond}
@@ -9,33 +10,26 @@ use lib.Seq.{take_all}
 use lib.Dec.{ltb}
 use borrow.Author.Tests.{lt-ltb, le-ltb, ltb-true, ltb-false}
 use Rattle.frames.specs.declared.Refusal.TheVariants.{NameUsed}
+use Rattle.frames.specs.declared.Refused.{Refused}
+use Rattle.frames.specs.Writer.{refusal_at}
 use Rattle.entries.specs.Entry.{entry_of}
 use Rattle.entries.specs.Least.{lesser}
-use Rattle.entries.proofs.LeastLaws.{lesser_right}
+use Rattle.naming.proofs.RoomLaws.{lesser_min}
 use Rattle.select.specs.declared.Source.TheVariants as S
 use Rattle.select.specs.Source.{Searched}
 use Rattle.notes.specs.declared.Notes.{Notes}
 use Rattle.notes.specs.Notes.{held_in, noting, added, told}
 use Rattle.used.specs.Place.{frame_place}
 use Rattle.used.proofs.PlaceReturns.{place_inside}
-use Rattle.settle.specs.declared.Measured.{Measured}
-use Rattle.settle.specs.declared.Measured.TheVariants as M
 use Rattle.naming.specs.Names.{noted_by, room_for, twin_by, ending, ended_by}
+use Rattle.settle.specs.declared.Measured.{Measured}
 
 -- ---- positions
 
--- one behind another, or 0
-pub less_it : (a b r : ℕ) → r ≡ lesser a b → r ≤ b
-less_it a b r e = rw e (lesser_right a b)
+module _ (s : List ℕ) (at from : ℕ) (nearer : from ≡ min at (length s)) where
+  e : from ≡ lesser at (length s)
+  e = nearer ∙ lesser_min at (length s)
 
-behind_is : (a b r : ℕ) → r ≡ lesser a b → b - r ≡ b - a
-behind_is a b r e = rw e (go (ltb a b) refl)
-  where
-    go : (o : Bool) → ltb a b ≡ o → b - cond o a b ≡ b - a
-    go true i = refl
-    go false i = omega (arith, ltb-false a b i)
-
-module _ (s : List ℕ) (at from : ℕ) (e : from ≡ lesser at (length s)) where
   -- what is lent from a position on is what is left there
   part_is : take (length s - from) (drop from s) ≡ drop at s
   part_is = take_all (length s - from) (drop from s) (omega (arith, length-drop from s)) ∙ rw e (go (ltb at (length s)) refl)
@@ -58,14 +52,13 @@ module _ (s : List ℕ) (at from : ℕ) (e : from ≡ lesser at (length s)) wher
 
   -- ---- a name
 
-  pub note_is : (t : List ℕ) (notes : Notes) (b e₁ x y z : ℕ) → x ≡ lesser at b → y ≡ lesser at e₁
-      → z ≡ entry_of (take (length s - from) (drop from s)) (b - x) (e₁ - y)
+  pub note_is : (t : List ℕ) (notes : Notes) (b e₁ x y z : ℕ) → x ≡ b - at → y ≡ e₁ - at → z ≡ entry_of (take (length s - from) (drop from s)) x y
       → (r : Notes) (t' : List ℕ) → noting r t' ≡ added (take (length s - from) (drop from s)) t notes z → noting r t' ≡ noted_by s at t notes b e₁
-  note_is t notes b e₁ x y z ex ey ez r t' h = rw (← behind_is at b x ex, ← behind_is at e₁ y ey, ← part_is, ← ez) h
+  note_is t notes b e₁ x y z ex ey ez r t' h = rw (← ex, ← ey, ← part_is, ← ez) h
 
   -- ---- the end
 
-  module _ (d : ℕ) (t : List ℕ) (notes : Notes) (reach : ℕ) (m : Measured) (nz : reach ≡ 0 → ⊥) (held : ℕ) (v : held ≡ held_in notes) (room : ℕ)
+  module _ (d : ℕ) (t : List ℕ) (notes : Notes) (reach : ℕ) (m : Result Measured Refused) (nz : reach ≡ 0 → ⊥) (held : ℕ) (v : held ≡ held_in notes) (room : ℕ)
       (u : room ≡ room_for (length t) held reach) (g : ℕ) (y : List ℕ)
       (h : ◌≡◌ {A = Searched} (record { answer = g; table = y }) (told (S.Frames d (reach - 1)) (take (length s - from) (drop from s))
       (take room t) notes)) where
@@ -81,13 +74,13 @@ module _ (s : List ℕ) (at from : ℕ) (e : from ≡ lesser at (length s)) wher
     unfolding ended_by
     ended_once j = rw (lt-ltb 0 reach (omega (arith, nz)), search_is, room_is, le-ltb g 16777216 j)
 
-    pub ended_twice : g < 16777216 → (p : ℕ) → p ≡ frame_place d (take (length s - from) (drop from s)) g
-        → ending (M.Refused NameUsed (from + p)) (y ++ drop room t) ≡ ended_by d s at t notes reach m
+    pub ended_twice : g < 16777216 → (p : ℕ) → p ≡ frame_place d (take (length s - from) (drop from s)) g → (r : Refused) → r ≡ refusal_at NameUsed (from + p)
+        → ending (Err r) (y ++ drop room t) ≡ ended_by d s at t notes reach m
     unfolding ended_by
-    ended_twice j p q =
+    ended_twice j p q r i =
         let z : p ≡ frame_place d (drop at s) g = q ∙ ap (λ (u : List ℕ). frame_place d u g) part_is in
-        rw (lt-ltb 0 reach (omega (arith, nz)), search_is, room_is, lt-ltb g 16777216 j, ← z, ← e)
+        rw (lt-ltb 0 reach (omega (arith, nz)), search_is, room_is, lt-ltb g 16777216 j, i, ← z, ← e)
 
-pub ended_empty : (s : List ℕ) (at d : ℕ) (t : List ℕ) (notes : Notes) (reach : ℕ) (m : Measured) → reach ≡ 0 → ending m t ≡ ended_by d s at t notes reach m
+pub ended_empty : (s : List ℕ) (at d : ℕ) (t : List ℕ) (notes : Notes) (reach : ℕ) (m : Result Measured Refused) → reach ≡ 0 → ending m t ≡ ended_by d s at t notes reach m
 unfolding ended_by
 ended_empty s at d t notes reach m j = rw (le-ltb 0 reach (omega arith))

@@ -11,10 +11,11 @@ use lib.Dec.{ltb, leb}
 use borrow.Author.Tests.{ltb-true, leb-true}
 use Rattle.number.proofs.Clash.{clash}
 use Rattle.text.proofs.Laws.{and_both}
-use Rattle.compare.specs.declared.Order.{Order}
-use Rattle.compare.specs.declared.Order.TheVariants as O
+use Rattle.std.specs.declared.cmp.Ordering.{Ordering}
+use Rattle.std.specs.declared.cmp.Ordering.TheVariants.{Less, Equal, Greater}
+use Rattle.std.specs.Ordering.{is_lt}
 use Rattle.entries.specs.Entry.{begin_in, bytes_in, name_in}
-use Rattle.compare.specs.Order.{order, is_less, ascends}
+use Rattle.compare.specs.Order.{order, ascends}
 use Rattle.entries.specs.Least.{lesser, least}
 use Rattle.entries.specs.Among.{In, here, there}
 use Rattle.compare.proofs.OrderLaws.{order_refl, order_trans}
@@ -27,14 +28,14 @@ use Rattle.notes.specs.Notes.{rises_from, rises, held_in, risen, noting, added, 
 
 -- ---- names that ascend
 
-ascends_is : (s : List ℕ) (x y : ℕ) → ascends s x y ≡ true → order (bytes_in s x) (bytes_in s y) ≡ O.Less
+ascends_is : (s : List ℕ) (x y : ℕ) → ascends s x y ≡ true → order (bytes_in s x) (bytes_in s y) ≡ Less
 unfolding ascends
 ascends_is s x y h = go (order (bytes_in s x) (bytes_in s y)) refl h
   where
-    go : (o : Order) → order (bytes_in s x) (bytes_in s y) ≡ o → is_less o ≡ true → o ≡ O.Less
-    go O.Less e h = refl
-    go O.Same e h = clash cc
-    go O.More e h = clash cc
+    go : (o : Ordering) → order (bytes_in s x) (bytes_in s y) ≡ o → is_lt o ≡ true → o ≡ Less
+    go Less e h = refl
+    go Equal e h = clash cc
+    go Greater e h = clash cc
 
 -- one more behind the last
 from_last : (s : List ℕ) (x : ℕ) (us : List ℕ) (y z : ℕ) → rises_from s x ((us ++ (y ∷ [])) ++ (z ∷ [])) ≡ rises_from s x (us ++ (y ∷ [])) && ascends s y z
@@ -62,7 +63,7 @@ rises_last s [] y z = go (ascends s y z)
 rises_last s (u ∷ us) y z = from_last s u us y z
 
 -- the first comes before all behind it
-from_less : (s : List ℕ) (a : ℕ) (t : List ℕ) → rises_from s a t ≡ true → (x : ℕ) → In x t → order (bytes_in s a) (bytes_in s x) ≡ O.Less
+from_less : (s : List ℕ) (a : ℕ) (t : List ℕ) → rises_from s a t ≡ true → (x : ℕ) → In x t → order (bytes_in s a) (bytes_in s x) ≡ Less
 unfolding rises_from
 from_less s a [] h x x4 = elim x4 [ ]
 from_less s a (b ∷ t) h x here = ascends_is s a b (and_both (ascends s a b) (rises_from s b t) h).0
@@ -82,9 +83,9 @@ same_bytes s x y e = ap tail e
     tail [] = []
     tail (b ∷ n) = n
 
-not_less : {X : Type 0} (s : List ℕ) (x y : ℕ) → name_in s x ≡ name_in s y → order (bytes_in s x) (bytes_in s y) ≡ O.Less → X
+not_less : {X : Type 0} (s : List ℕ) (x y : ℕ) → name_in s x ≡ name_in s y → order (bytes_in s x) (bytes_in s y) ≡ Less → X
 not_less s x y e h =
-    let z : O.Same ≡ O.Less = sym (order_refl (bytes_in s x)) ∙ ap (order (bytes_in s x)) (same_bytes s x y e) ∙ h in
+    let z : Equal ≡ Less = sym (order_refl (bytes_in s x)) ∙ ap (order (bytes_in s x)) (same_bytes s x y e) ∙ h in
     clash cc
 
 -- so no two of them are equal

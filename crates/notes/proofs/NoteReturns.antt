@@ -103,3 +103,11 @@ module _ (o : Source) (s t : List ℕ) (m : Notes) where
 
   pub told_many : m ≡ Many → (w : Searched) → w ≡ searched o s t → w ≡ told o s t m
   told_many e w h = rw e h
+
+pub ruleset rise_laws = (rise_starts, rise_falls, rise_on, rise_ends)
+
+pub ruleset risen_laws = (risen_yes, risen_no)
+
+pub ruleset add_laws = (add_inside, add_small, add_few, add_full, add_rising, add_many)
+
+pub ruleset told_laws = (told_few, told_rising, told_many)

@@ -20,40 +20,40 @@ pub fn held(notes: Notes) -> usize
 {
     match notes {
         Notes::Few(n) => n,
-        Notes::Rising(last) => 0,
-        Notes::Many => 0,
+        Notes::Rising(_) | Notes::Many => 0,
     }
 }
 
 // The first n entries of the table ascend, and x comes behind them. Looked at from the end, since most that do not ascend end so.
-fn rise<'a>(part: &'a [u8], table: &'a [u64], n: usize, x: u64) -> bool
+#[tactic(auto, using(crate::proofs::NoteReturns::rise_laws))]
+fn rise(part: &[u8], table: &[u64], n: usize, x: u64) -> bool
     ensures { result ≡ rises part.now (take n table.now ++ (x ∷ [])) }
 {
-    let mut i = entries::lesser(n, table.len());
     let mut next = x;
-    while 0 < i {
-        let last = table[i - 1];
-        if compare::ascends(part, last, next) {
-            next = last;
-            i -= 1;
-        } else {
+    for i in (0..entries::lesser(n, table.len())).rev() {
+        let last = table[i];
+        if !compare::ascends(part, last, next) {
             return false;
         }
+        next = last;
     }
     true
 }
 
 // What is known with x behind names that ascend, or do not.
+#[tactic(auto, using(crate::proofs::NoteReturns::risen_laws))]
 fn risen(ascend: bool, x: u64) -> Notes
     ensures { result ≡ risen ascend x }
 {
     if ascend {
-        return Notes::Rising(x);
+        Notes::Rising(x)
+    } else {
+        Notes::Many
     }
-    Notes::Many
 }
 
 // One name more.
+#[tactic(auto, using(crate::proofs::NoteReturns::add_laws))]
 pub fn add(part: &[u8], table: &mut [u64], notes: Notes, x: u64) -> Notes
     ensures { noting result table.new ≡ added part.now table.old notes x }
 {
@@ -71,12 +71,13 @@ pub fn add(part: &[u8], table: &mut [u64], notes: Notes, x: u64) -> Notes
 }
 
 // All names were met: where the first begins that stands a second time; 16777216 if every name stands once.
+#[tactic(auto, using(crate::proofs::NoteReturns::told_laws))]
 pub fn first_twin(part: &[u8], source: Source, table: &mut [u64], notes: Notes) -> usize
     ensures { record { answer = result; table = table.new } ≡ told source part.now table.old notes }
 {
     match notes {
         Notes::Few(n) => pairs::first_twin(part, table, n),
-        Notes::Rising(last) => 16777216,
+        Notes::Rising(_) => 16777216,
         Notes::Many => select::first_twin(part, source, table),
     }
 }

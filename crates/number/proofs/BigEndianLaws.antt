@@ -1,6 +1,5 @@
 -- Laws of big-endian numbers: bytes make a number, and the number's last bytes are these bytes again.
-use Prim.Native.Nat.{ℕ, zero, suc, ◌+◌, ◌-◌, ◌*◌, ◌/◌, ◌%◌, ◌^◌, ◌≤◌, ◌<◌}
-use native.Mathlib.Numerals.{add-one}
+use Prim.Native.Nat.{ℕ, zero, suc, ◌+◌, ◌*◌, ◌/◌, ◌%◌, ◌^◌, ◌≤◌, ◌<◌}
 use native.Mathlib.Omega.{arith}
 use native.Mathlib.Nat.{mod-eq_of_lt, pow-succ', add-mul-div_right, add-mul-mod_self_right}
 use mathlib.Core.Path.{◌≡◌, refl, sym, ap, ◌∙◌}
@@ -73,13 +72,7 @@ pub behind_least : (s : List ℕ) (a : ℕ) → a ≤ behind a s
 behind_least [] a = omega arith
 behind_least (b ∷ s) a = omega (arith, behind_least s (a * 256 + b))
 
--- one byte more of a part
-pub behind_step : (s : List ℕ) (a i to : ℕ) → i < to → to ≤ length s
-    → behind a (take (to - i) (drop i s)) ≡ behind (a * 256 + get_or s i 0) (take (to - (i + 1)) (drop (i + 1) s))
-behind_step s a i to h l =
-    let e : to - i ≡ suc (to - (i + 1)) = omega arith in
-    rw (e, drop-cons s i 0 (omega arith), add-one i)
-
-pub behind_fits : (s : List ℕ) (a i to total : ℕ) → i < to → to ≤ length s → behind a (take (to - i) (drop i s)) ≡ total → a * 256 + get_or s i 0 ≤ total
-behind_fits s a i to total h l e =
-    rw (sym (behind_step s a i to h l) ∙ e) at (behind_least (take (to - (i + 1)) (drop (i + 1) s)) (a * 256 + get_or s i 0))
+-- one byte more of the bytes that are left
+pub behind_fits : (s : List ℕ) (a i total : ℕ) → behind a (drop i s) ≡ total → i < length s → a * 256 + get_or s i 0 ≤ total
+behind_fits s a i total e h =
+    rw (ap (behind a) (sym (drop-cons s i 0 h)) ∙ e) at (behind_least (drop (suc i) s) (a * 256 + get_or s i 0))

@@ -1,12 +1,12 @@
 pub mod BigEndianLaws
 pub mod ReachedLaws
+pub mod AnswerLaws
 pub mod VarUIntLaws
 pub mod NumberThenLaws
+pub mod MinusLaws
 pub mod MissingLaws
 pub mod PinnedVarUInts
 pub mod ReadLaws
-pub mod FixedLaws
 pub mod SignedLaws
-pub mod MinusLaws
 pub mod OneAnswer
 pub mod Clash

@@ -2,25 +2,24 @@
 use mathlib.Core.Path.{◌≡◌, refl}
 use mathlib.Core.Bool.{true, false}
 use mathlib.Core.List.{[], ◌∷◌, map}
-use Rattle.number.specs.VarUInt.{var_uint}
-use Rattle.number.specs.declared.VarUInt.TheVariants.{Cut, Whole}
+use Rattle.number.specs.VarUInt.{cut, whole, var_uint}
 
-pub nothing_there : var_uint [] ≡ Cut 1
+pub nothing_there : var_uint [] ≡ cut 1
 unfolding var_uint
 nothing_there = refl
 
 -- a first byte alone: the least and the greatest of each number of leading one bits
 first_alone : map (λ b. var_uint (b ∷ [])) (0x80 ∷ 0xbf ∷ 0xc0 ∷ 0xdf ∷ 0xe0 ∷ 0xef ∷ 0xf0 ∷ 0xf7 ∷ 0xf8 ∷ 0xfb ∷ 0xfc ∷ 0xfd ∷ 0xfe ∷ 0xff ∷ [])
-    ≡ Cut 1 ∷ Cut 1 ∷ Cut 2 ∷ Cut 2 ∷ Cut 3 ∷ Cut 3 ∷ Cut 4 ∷ Cut 4 ∷ Cut 5 ∷ Cut 5 ∷ Cut 6 ∷ Cut 6 ∷ Cut 7 ∷ Cut 8 ∷ []
+    ≡ cut 1 ∷ cut 1 ∷ cut 2 ∷ cut 2 ∷ cut 3 ∷ cut 3 ∷ cut 4 ∷ cut 4 ∷ cut 5 ∷ cut 5 ∷ cut 6 ∷ cut 6 ∷ cut 7 ∷ cut 8 ∷ []
 unfolding var_uint
 first_alone = refl
 
 some_there : var_uint (0xc1 ∷ 0x23 ∷ []) ∷ var_uint (0xfe ∷ 0 ∷ []) ∷ var_uint (0xff ∷ 0xff ∷ 0xff ∷ 0xff ∷ [])
-    ∷ var_uint (0xff ∷ 1 ∷ 2 ∷ 3 ∷ 4 ∷ 5 ∷ 6 ∷ 7 ∷ []) ∷ [] ≡ Cut 1 ∷ Cut 6 ∷ Cut 5 ∷ Cut 1 ∷ []
+    ∷ var_uint (0xff ∷ 1 ∷ 2 ∷ 3 ∷ 4 ∷ 5 ∷ 6 ∷ 7 ∷ []) ∷ [] ≡ cut 1 ∷ cut 6 ∷ cut 5 ∷ cut 1 ∷ []
 unfolding var_uint
 some_there = refl
 
-one_byte : var_uint (0 ∷ []) ∷ var_uint (0x7f ∷ 0x80 ∷ []) ∷ [] ≡ Whole 0 1 true ∷ Whole 127 1 true ∷ []
+one_byte : var_uint (0 ∷ []) ∷ var_uint (0x7f ∷ 0x80 ∷ []) ∷ [] ≡ whole 0 1 true ∷ whole 127 1 true ∷ []
 unfolding var_uint
 one_byte = refl
 
@@ -29,15 +28,15 @@ not_minimal : var_uint (0x80 ∷ 0x7f ∷ 0x55 ∷ []) ∷ var_uint (0xc0 ∷ 0x
     ∷ var_uint (0xf0 ∷ 0x0f ∷ 0xff ∷ 0xff ∷ 0xff ∷ []) ∷ var_uint (0xf8 ∷ 0x07 ∷ 0xff ∷ 0xff ∷ 0xff ∷ 0xff ∷ [])
     ∷ var_uint (0xfc ∷ 0x03 ∷ 0xff ∷ 0xff ∷ 0xff ∷ 0xff ∷ 0xff ∷ []) ∷ var_uint (0xfe ∷ 0x01 ∷ 0xff ∷ 0xff ∷ 0xff ∷ 0xff ∷ 0xff ∷ 0xff ∷ [])
     ∷ var_uint (0xff ∷ 0x00 ∷ 0xff ∷ 0xff ∷ 0xff ∷ 0xff ∷ 0xff ∷ 0xff ∷ 0xff ∷ []) ∷ []
-    ≡ Whole 127 2 false ∷ Whole 16383 3 false ∷ Whole 2097151 4 false ∷ Whole 268435455 5 false ∷ Whole 34359738367 6 false ∷ Whole 4398046511103 7 false
-    ∷ Whole 562949953421311 8 false ∷ Whole 72057594037927935 9 false ∷ []
+    ≡ whole 127 2 false ∷ whole 16383 3 false ∷ whole 2097151 4 false ∷ whole 268435455 5 false ∷ whole 34359738367 6 false ∷ whole 4398046511103 7 false
+    ∷ whole 562949953421311 8 false ∷ whole 72057594037927935 9 false ∷ []
 unfolding var_uint
 not_minimal = refl
 
 minimal : var_uint (0x80 ∷ 0x80 ∷ 0x55 ∷ []) ∷ var_uint (0xc0 ∷ 0x40 ∷ 0 ∷ []) ∷ var_uint (0xe0 ∷ 0x20 ∷ 0 ∷ 0 ∷ []) ∷ var_uint (0xf0 ∷ 0x10 ∷ 0 ∷ 0 ∷ 0 ∷ [])
     ∷ var_uint (0xf8 ∷ 0x08 ∷ 0 ∷ 0 ∷ 0 ∷ 0 ∷ []) ∷ var_uint (0xfc ∷ 0x04 ∷ 0 ∷ 0 ∷ 0 ∷ 0 ∷ 0 ∷ []) ∷ var_uint (0xfe ∷ 0x02 ∷ 0 ∷ 0 ∷ 0 ∷ 0 ∷ 0 ∷ 0 ∷ [])
     ∷ var_uint (0xff ∷ 0x01 ∷ 0 ∷ 0 ∷ 0 ∷ 0 ∷ 0 ∷ 0 ∷ 0 ∷ []) ∷ var_uint (0xff ∷ 0xff ∷ 0xff ∷ 0xff ∷ 0xff ∷ 0xff ∷ 0xff ∷ 0xff ∷ 0xff ∷ []) ∷ []
-    ≡ Whole 128 2 true ∷ Whole 16384 3 true ∷ Whole 2097152 4 true ∷ Whole 268435456 5 true ∷ Whole 34359738368 6 true ∷ Whole 4398046511104 7 true
-    ∷ Whole 562949953421312 8 true ∷ Whole 72057594037927936 9 true ∷ Whole 18446744073709551615 9 true ∷ []
+    ≡ whole 128 2 true ∷ whole 16384 3 true ∷ whole 2097152 4 true ∷ whole 268435456 5 true ∷ whole 34359738368 6 true ∷ whole 4398046511104 7 true
+    ∷ whole 562949953421312 8 true ∷ whole 72057594037927936 9 true ∷ whole 18446744073709551615 9 true ∷ []
 unfolding var_uint
 minimal = refl

@@ -1,5 +1,5 @@
 -- Laws of `reached`: of rising bounds as many are reached as stand at or below the number.
-use Prim.Native.Nat.{ℕ, zero, suc, ◌≤◌, ◌<◌}
+use Prim.Native.Nat.{ℕ, zero, suc, ◌+◌, ◌≤◌, ◌<◌}
 use native.Mathlib.Omega.{arith}
 use mathlib.Core.Path.{◌≡◌, refl, ap}
 use mathlib.Core.Bool.{Bool, true, false, cond}
@@ -7,6 +7,8 @@ use mathlib.Core.List.{List, [], ◌∷◌}
 use lib.ListN.{length, get_or}
 use lib.Dec.{ltb}
 use borrow.Author.Tests.{ltb-true, ltb-false, lt-ltb, le-ltb}
+use Rattle.std.proofs.Common.{Option, Some, None, not, unwrap_or}
+use Rattle.std.specs.List.{position_or_len}
 use Rattle.number.specs.VarUInt.{reached}
 
 pub reached_most : (ts : List ℕ) (b : ℕ) → reached ts b ≤ length ts
@@ -50,3 +52,20 @@ reached_at l [] (suc n) b d r h low high = absurd (omega arith)
 reached_at l (t ∷ ts) zero b d r h low high = rw (lt-ltb b t)
 reached_at l (t ∷ ts) (suc n) b d r h low high =
     rw (le-ltb b t (omega (arith, rising t ts n r.1 (omega arith)))) (ap suc (reached_at t ts n b d r.1 (omega arith) low high))
+
+-- as many are reached as stand before the first that is greater
+pub reached_position : (ts : List ℕ) (b : ℕ) (o : Option ℕ) → o ≡ cond (ltb (position_or_len (ltb b) ts) (length ts)) (Some (position_or_len (ltb b) ts)) None
+    → unwrap_or o (length ts) ≡ reached ts b
+reached_position ts b o e = rw e (go (ltb (position_or_len (ltb b) ts) (length ts)) refl)
+  where
+    same : (ts : List ℕ) → position_or_len (ltb b) ts ≡ reached ts b
+    same [] = refl
+    same (t ∷ ts) = at (ltb b t) (same ts)
+      where
+        at : (x : Bool) → position_or_len (ltb b) ts ≡ reached ts b → cond (not x) (1 + position_or_len (ltb b) ts) 0 ≡ cond x 0 (suc (reached ts b))
+        at true h = refl
+        at false h = omega arith
+
+    go : (x : Bool) → ltb (position_or_len (ltb b) ts) (length ts) ≡ x → unwrap_or (cond x (Some (position_or_len (ltb b) ts)) None) (length ts) ≡ reached ts b
+    go true h = same ts
+    go false h = omega (arith, ltb-false (position_or_len (ltb b) ts) (length ts) h, same ts, reached_most ts b)

@@ -2,18 +2,16 @@
 use Prim.Native.Nat.{ℕ, suc, ◌+◌, ◌-◌, ◌^◌, ◌≤◌, ◌<◌}
 use native.Mathlib.Numerals.{add-one}
 use native.Mathlib.Omega.{arith}
-use mathlib.Core.Path.{◌≡◌, refl, sym, ap, ◌∙◌}
+use mathlib.Core.Path.{◌≡◌, refl, sym, ◌∙◌}
 use mathlib.Core.Bool.{true}
 use mathlib.Core.List.{List, [], ◌∷◌}
-use lib.ListN.{length, take, drop, get_or}
-use lib.Seq.{get_or-drop}
+use lib.ListN.{length, take, get_or}
 use lib.Dec.{leb}
 use borrow.Author.Tests.{lt-ltb, le-leb}
 use mir.Syntax.{w8}
 use mir.Val.{Fits}
 use Rattle.number.specs.BigEndian.{Bytes, behind}
-use Rattle.number.specs.VarUInt.{lead, bound, following, value_of, answer, var_uint}
-use Rattle.number.specs.declared.VarUInt.TheVariants.{Cut, Whole}
+use Rattle.number.specs.VarUInt.{lead, bound, following, value_of, answer, cut, whole, var_uint}
 use Rattle.number.proofs.VarUIntLaws.{limit, limit_whole, Following, following_is, below, answer_whole}
 
 -- what is known of a slice of bytes
@@ -24,54 +22,34 @@ pub bytes_of : (s : List ℕ) → Known s → Bytes s
 bytes_of [] g = tt
 bytes_of (b ∷ s) g = ((g 0).fits, bytes_of s (λ i. g (suc i)))
 
-pub read_none : (s : List ℕ) → length s ≡ 0 → Cut 1 ≡ var_uint s
+pub read_none : (s : List ℕ) → length s ≡ 0 → cut 1 ≡ var_uint s
 unfolding var_uint
 read_none [] h = refl
 read_none (b ∷ s) h = absurd (omega arith)
 
 -- a first byte, and the others
-split_first : (s : List ℕ) (n : ℕ) → 0 < length s → n ≡ following (get_or s 0 0) → var_uint s ≡ answer n (get_or s 0 0) (drop 1 s)
+at_first : (s r : List ℕ) (b n : ℕ) → s ≡ b ∷ r → n ≡ following b → var_uint s ≡ answer n b r
 unfolding var_uint
-split_first [] n h e = absurd (omega arith)
-split_first (b ∷ s) n h e = ap (λ k. answer k b s) (sym e)
+at_first s r b n e f = rw (e, f)
 
-rest_length : (s : List ℕ) → 0 < length s → length s ≡ suc (length (drop 1 s))
-rest_length [] h = absurd (omega arith)
-rest_length (b ∷ s) h = refl
+pub read_one : (s r : List ℕ) (b n v : ℕ) → s ≡ b ∷ r → n ≡ following b → n ≡ 0 → v ≡ b → whole v 1 true ≡ var_uint s
+read_one s r b n v e f z d =
+    let l : b - 0 ≡ b = omega arith in
+    rw (at_first s r b 0 e (sym z ∙ f), answer_whole 0 b r (omega arith), l, d, le-leb 0 b (omega arith))
 
-pub read_one : (s : List ℕ) (v : ℕ) → 0 < length s → 0 ≡ following (get_or s 0 0) → v ≡ get_or s 0 0 → Whole v 1 true ≡ var_uint s
-read_one s v h l e =
-    let z : get_or s 0 0 - 0 ≡ get_or s 0 0 = omega arith in
-    rw (
-      split_first s 0 h l,
-      answer_whole 0 (get_or s 0 0) (drop 1 s) (omega arith),
-      z,
-      e,
-      le-leb 0 (get_or s 0 0) (omega arith),
-    )
+pub read_cut : (s r : List ℕ) (b n : ℕ) → s ≡ b ∷ r → n ≡ following b → length r < n → cut (n - length r) ≡ var_uint s
+read_cut s r b n e f l = rw (at_first s r b n e f, lt-ltb (length r) n l)
 
-pub read_cut : (s : List ℕ) (n : ℕ) → 0 < length s → n ≡ following (get_or s 0 0) → length s ≤ n → Cut (n - (length s - 1)) ≡ var_uint s
-read_cut s n h e l =
-    let m : length s - 1 ≡ length (drop 1 s) = omega (arith, rest_length s h) in
-    rw (split_first s n h e, lt-ltb (length (drop 1 s)) n (omega (arith, rest_length s h)), m)
+pub value_fits : (s r : List ℕ) (b n a : ℕ) → Known s → s ≡ b ∷ r → n ≡ following b → n ≤ length r → a ≡ b - lead n → behind a (take n r) < 2 ^ 64
+value_fits s r b n a w e f h d =
+    let g : Bytes (b ∷ r) = rw e at (bytes_of s w) in
+    let i : Following n b = rw f (following_is b g.0) in
+    let q : value_of n b r < limit n =
+    below n b r (value_of n b r) (suc n) (leb (bound n) (value_of n b r)) i g.1 (record { room = h; value = refl; length_is = refl; minimal = refl }) in
+    rw d (omega (arith, q, limit_whole n i.most))
 
-pub following_known : (s : List ℕ) (n : ℕ) → Known s → n ≡ following (get_or s 0 0) → Following n (get_or s 0 0)
-following_known s n g e = rw e (following_is (get_or s 0 0) (g 0).fits)
-
-pub value_fits : (s : List ℕ) (n l f : ℕ) → Known s → n ≡ following (get_or s 0 0) → n < length s → l ≡ lead n → f ≡ get_or s 0 0 - l
-    → behind f (take (n + 1 - 1) (drop 1 s)) < 2 ^ 64
-value_fits s n l f w e h a b =
-    let g : Following n (get_or s 0 0) = following_known s n w e in
-    let i : n + 1 - 1 ≡ n = omega arith in
-    let q : value_of n (get_or s 0 0) (drop 1 s) < limit n =
-    below n (get_or s 0 0) (drop 1 s) (value_of n (get_or s 0 0) (drop 1 s)) (suc n) (leb (bound n) (value_of n (get_or s 0 0) (drop 1 s))) g
-    (bytes_of (drop 1 s) (λ i. rw (get_or-drop 1 s i 0) (w (1 + i))))
-    (record { room = omega (arith, rest_length s (omega arith)); value = refl; length_is = refl; minimal = refl }) in
-    rw (b, a, i) (omega (arith, limit_whole n g.most))
-
-pub read_whole : (s : List ℕ) (n l f v u : ℕ) → n ≡ following (get_or s 0 0) → n < length s → l ≡ lead n → f ≡ get_or s 0 0 - l
-    → v ≡ behind f (take (n + 1 - 1) (drop 1 s)) → u ≡ bound n → Whole v (n + 1) (leb u v) ≡ var_uint s
-read_whole s n l f v u e h a b c d =
-    let i : n + 1 - 1 ≡ n = omega arith in
-    let q : v ≡ value_of n (get_or s 0 0) (drop 1 s) = c ∙ rw (b, a, i) in
-    rw (split_first s n (omega arith) e, answer_whole n (get_or s 0 0) (drop 1 s) (omega (arith, rest_length s (omega arith))), q, d, add-one n)
+pub read_whole : (s r : List ℕ) (b n a v u : ℕ) → s ≡ b ∷ r → n ≡ following b → n ≤ length r → a ≡ b - lead n → v ≡ behind a (take n r) → u ≡ bound n
+    → whole v (n + 1) (leb u v) ≡ var_uint s
+read_whole s r b n a v u e f h d g k =
+    let q : v ≡ value_of n b r = g ∙ rw d in
+    rw (at_first s r b n e f, answer_whole n b r h, q, k, add-one n)

@@ -1,6 +1,6 @@
 -- Laws of the VarUInt: how many bytes follow the first; what the minimal form reads back as, and that a minimal form that reads as a value is
 -- the value's own form.
-use Prim.Native.Nat.{ℕ, zero, suc, ◌+◌, ◌-◌, ◌*◌, ◌/◌, ◌%◌, ◌^◌, ◌≤◌, ◌<◌}
+use Prim.Native.Nat.{ℕ, zero, suc, ◌+◌, ◌-◌, ◌*◌, ◌/◌, ◌^◌, ◌≤◌, ◌<◌}
 use native.Mathlib.Omega.{arith}
 use native.Mathlib.Nat.{div-add-mod', div-lt_iff_lt-mul}
 use mathlib.Core.Path.{◌≡◌, refl, sym, ap, ◌∙◌}
@@ -14,10 +14,11 @@ use lib.Dec.{T, ltb, leb, eqb, leb→le, eqb→eq}
 use borrow.Author.Tests.{ltb-false, leb-true, le-ltb, le-leb}
 use mir.Syntax.{w64}
 use mir.Val.{Fits}
+use Rattle.std.specs.Int.Bits.{bit_and}
 use Rattle.number.specs.BigEndian.{Bytes, behind, from_bytes, to_bytes}
-use Rattle.number.specs.VarUInt.{reached, leads, lead, bounds, bound, following, value_of, answer, var_uint, form, encoded}
-use Rattle.number.specs.declared.VarUInt.TheVariants.{Cut, Whole}
+use Rattle.number.specs.VarUInt.{reached, leads, lead, bounds, bound, following, value_of, answer, cut, whole, var_uint, form, encoded}
 use Rattle.number.proofs.BigEndianLaws.{positive, to_length, to_bytes_law, to_last, behind_to, behind_is, from_lt, to_from, bytes_take}
+use Rattle.number.proofs.AnswerLaws.{whole_same}
 use Rattle.number.proofs.ReachedLaws.{Rising, reached_most, reached_low, reached_high, reached_at}
 
 -- the least byte with more than n leading one bits, and 256 for 8
@@ -54,15 +55,9 @@ module _ (n : ℕ) (h : n ≤ 8) where
   top_byte : top n ≤ 256
   top_byte = leb→le (top n) 256 (every_at (λ k. leb (top k) 256) 9 tt n (omega arith))
 
--- the code's lead and bound are shifts
+-- the least first byte with n bytes behind it, as shifts make it
 pub lead_is : (n : ℕ) → n ≤ 8 → 255 - 255 / 2 ^ n ≡ lead n
 lead_is n h = eqb→eq (255 - 255 / 2 ^ n) (lead n) (every_at (λ k. eqb (255 - 255 / 2 ^ k) (lead k)) 9 tt n (omega arith))
-
-pub bound_is : (n : ℕ) → 1 ≤ n → n ≤ 8 → 1 * 2 ^ (7 * n) % 2 ^ 64 ≡ bound n
-bound_is zero l h = absurd (omega arith)
-bound_is (suc n) l h =
-    eqb→eq (1 * 2 ^ (7 * suc n) % 2 ^ 64) (bound (suc n))
-    (every_at (λ k. eqb (1 * 2 ^ (7 * suc k) % 2 ^ 64) (bound (suc k))) 8 tt n (omega arith))
 
 leads_rise : Rising 0 leads
 leads_rise = omega arith
@@ -92,6 +87,12 @@ complement_zeros b h =
 pub count_fits : (x : ℕ) → Fits w64 (count_leading_zeros 8 x)
 count_fits x = record { fits = omega (arith, leading_le 8 x) }
 
+-- what the mask leaves of a byte: computed at each of the 256 bytes
+pub masked : (b : ℕ) → b < 256 → bit_and b (127 / 2 ^ following b) ≡ b - lead (following b)
+masked b h =
+    eqb→eq (bit_and b (127 / 2 ^ following b)) (b - lead (following b))
+    (every_at (λ k. eqb (bit_and k (127 / 2 ^ following k)) (k - lead (following k))) 256 tt b h)
+
 -- how many bytes behind the first the value needs
 record Needed (n v : ℕ) : Type 0 where
   most : n ≤ 8
@@ -119,19 +120,21 @@ pub record Made (n b : ℕ) (s : List ℕ) (v k : ℕ) (m : Bool) : Type 0 where
   pub length_is : k ≡ suc n
   pub minimal : leb (bound n) (value_of n b s) ≡ m
 
-pub made : (n b : ℕ) (s : List ℕ) (v k : ℕ) (m : Bool) → answer n b s ≡ Whole v k m → Made n b s v k m
+pub made : (n b : ℕ) (s : List ℕ) (v k : ℕ) (m : Bool) → answer n b s ≡ whole v k m → Made n b s v k m
 made n b s v k m h = go (ltb (length s) n) _ refl h
   where
     go : (x : Bool) (c : ℕ) → ltb (length s) n ≡ x
-        → cond x (Cut c) (Whole (value_of n b s) (suc n) (leb (bound n) (value_of n b s))) ≡ Whole v k m → Made n b s v k m
+        → cond x (cut c) (whole (value_of n b s) (suc n) (leb (bound n) (value_of n b s))) ≡ whole v k m → Made n b s v k m
     go true c e h = let z : ◌≡◌ {A = ℕ} 0 1 = cc in absurd (omega arith)
-    go false c e h = record { room = ltb-false (length s) n e; value = cc; length_is = cc; minimal = cc }
+    go false c e h =
+        let i = whole_same (value_of n b s) (suc n) (leb (bound n) (value_of n b s)) v k m h in
+        record { room = ltb-false (length s) n e; value = sym i.0; length_is = sym i.1; minimal = i.2 }
 
-pub answer_whole : (n b : ℕ) (s : List ℕ) → n ≤ length s → answer n b s ≡ Whole (value_of n b s) (suc n) (leb (bound n) (value_of n b s))
+pub answer_whole : (n b : ℕ) (s : List ℕ) → n ≤ length s → answer n b s ≡ whole (value_of n b s) (suc n) (leb (bound n) (value_of n b s))
 answer_whole n b s h = rw (le-ltb (length s) n)
 
 -- the form with n bytes behind the first reads back as its value
-pub form_reads : (n v : ℕ) (r : List ℕ) → n ≤ 8 → v < limit n → var_uint (form n v ++ r) ≡ Whole v (suc n) (leb (bound n) v)
+pub form_reads : (n v : ℕ) (r : List ℕ) → n ≤ 8 → v < limit n → var_uint (form n v ++ r) ≡ whole v (suc n) (leb (bound n) v)
 unfolding var_uint
 form_reads n v r h l =
     let a : lead n + v / 256 ^ n - lead n ≡ v / 256 ^ n = omega arith in
@@ -146,9 +149,6 @@ form_length n v = ap suc (to_length n v)
 pub encoded_length : (v : ℕ) → (1 ≤ length (encoded v)) × (length (encoded v) ≤ 9)
 unfolding encoded
 encoded_length v = omega (arith, to_length (reached bounds v) v, reached_most bounds v)
-
-pub needed_most : (n v : ℕ) → n ≡ reached bounds v → n ≤ 8
-needed_most n v e = omega (arith, reached_most bounds v)
 
 pub measured : (n v : ℕ) → n ≡ reached bounds v → n + 1 ≡ length (encoded v)
 unfolding encoded
@@ -168,19 +168,19 @@ pub encoded_bytes : (v : ℕ) → v < 2 ^ 64 → Bytes (encoded v)
 unfolding encoded
 encoded_bytes v h = (encoded_first v h, to_bytes_law (reached bounds v) v)
 
-pub var_rt : (v : ℕ) (r : List ℕ) → v < 2 ^ 64 → var_uint (encoded v ++ r) ≡ Whole v (length (encoded v)) true
+pub var_rt : (v : ℕ) (r : List ℕ) → v < 2 ^ 64 → var_uint (encoded v ++ r) ≡ whole v (length (encoded v)) true
 unfolding encoded
 var_rt v r h = go (reached bounds v) (needed_is v h)
   where
-    go : (n : ℕ) → Needed n v → var_uint (form n v ++ r) ≡ Whole v (length (form n v)) true
+    go : (n : ℕ) → Needed n v → var_uint (form n v ++ r) ≡ whole v (length (form n v)) true
     go n f = rw (form_reads n v r f.most f.high, form_length n v, le-leb (bound n) v f.low)
 
-pub var_range : (s : List ℕ) (v n : ℕ) (m : Bool) → var_uint s ≡ Whole v n m → (1 ≤ n) × (n ≤ 9) × (n ≤ length s)
+pub var_range : (s : List ℕ) (v n : ℕ) (m : Bool) → var_uint s ≡ whole v n m → (1 ≤ n) × (n ≤ 9) × (n ≤ length s)
 unfolding var_uint
 var_range [] v n m h = let z : ◌≡◌ {A = ℕ} 0 1 = cc in absurd (omega arith)
 var_range (b ∷ s) v n m h = go (following b) (reached_most leads b) h
   where
-    go : (k : ℕ) → k ≤ 8 → answer k b s ≡ Whole v n m → (1 ≤ n) × (n ≤ 9) × (n ≤ suc (length s))
+    go : (k : ℕ) → k ≤ 8 → answer k b s ≡ whole v n m → (1 ≤ n) × (n ≤ 9) × (n ≤ suc (length s))
     go k l h = let i = made k b s v n m h in omega (arith, i.room, i.length_is)
 
 -- the value, split into the first byte's part and the others'
@@ -197,12 +197,12 @@ pub below : (n b : ℕ) (s : List ℕ) (v k : ℕ) (m : Bool) → Following n b 
 below n b s v k m f w i =
     rw (scale n f.most, split n b s v k m i) (digits_lt (omega (arith, f.low, f.high)) (last_lt n s w i.room))
 
-pub var_value : (s : List ℕ) (v n : ℕ) (m : Bool) → Bytes s → var_uint s ≡ Whole v n m → v < 2 ^ 64
+pub var_value : (s : List ℕ) (v n : ℕ) (m : Bool) → Bytes s → var_uint s ≡ whole v n m → v < 2 ^ 64
 unfolding var_uint
 var_value [] v n m w h = let z : ◌≡◌ {A = ℕ} 0 1 = cc in absurd (omega arith)
 var_value (b ∷ s) v n m w h = go (following b) (following_is b w.0) h
   where
-    go : (k : ℕ) → Following k b → answer k b s ≡ Whole v n m → v < 2 ^ 64
+    go : (k : ℕ) → Following k b → answer k b s ≡ whole v n m → v < 2 ^ 64
     go k f h = omega (arith, below k b s v n m f w.1 (made k b s v n m h), limit_whole k f.most)
 
 -- a value's parts are those of its form
@@ -215,12 +215,12 @@ form_is n b s v k m f w i =
     let t : to_bytes n (from_bytes (take n s)) ≡ take n s = rw (length-take-le n s i.room) at (to_from (take n s) (bytes_take n s w)) in
     rw (d, p, q, t)
 
-pub var_inv : (s : List ℕ) (v n : ℕ) → Bytes s → var_uint s ≡ Whole v n true → (v < 2 ^ 64) × (n ≡ length (encoded v)) × (s ≡ encoded v ++ drop n s)
+pub var_inv : (s : List ℕ) (v n : ℕ) → Bytes s → var_uint s ≡ whole v n true → (v < 2 ^ 64) × (n ≡ length (encoded v)) × (s ≡ encoded v ++ drop n s)
 unfolding var_uint
 var_inv [] v n w h = let z : ◌≡◌ {A = ℕ} 0 1 = cc in absurd (omega arith)
 var_inv (b ∷ s) v n w h = go (following b) (following_is b w.0) h
   where
-    go : (k : ℕ) → Following k b → answer k b s ≡ Whole v n true → (v < 2 ^ 64) × (n ≡ length (encoded v)) × (b ∷ s ≡ encoded v ++ drop n (b ∷ s))
+    go : (k : ℕ) → Following k b → answer k b s ≡ whole v n true → (v < 2 ^ 64) × (n ≡ length (encoded v)) × (b ∷ s ≡ encoded v ++ drop n (b ∷ s))
     go k f h =
         let i = made k b s v n true h in
         let l : v < limit k = below k b s v n true f w.1 i in
@@ -232,23 +232,23 @@ var_inv (b ∷ s) v n w h = go (following b) (following_is b w.0) h
         )
 
 -- whatever is read is the form of its value with some number of bytes behind the first
-pub var_form : (s : List ℕ) (v n : ℕ) (m : Bool) → Bytes s → var_uint s ≡ Whole v n m → (k : ℕ) × (k ≤ 8) × (v < limit k) × (take n s ≡ form k v)
+pub var_form : (s : List ℕ) (v n : ℕ) (m : Bool) → Bytes s → var_uint s ≡ whole v n m → (k : ℕ) × (k ≤ 8) × (v < limit k) × (take n s ≡ form k v)
 unfolding var_uint
 var_form [] v n m w h = let z : ◌≡◌ {A = ℕ} 0 1 = cc in absurd (omega arith)
 var_form (b ∷ s) v n m w h = go (following b) (following_is b w.0) h
   where
-    go : (k : ℕ) → Following k b → answer k b s ≡ Whole v n m → (k : ℕ) × (k ≤ 8) × (v < limit k) × (take n (b ∷ s) ≡ form k v)
+    go : (k : ℕ) → Following k b → answer k b s ≡ whole v n m → (k : ℕ) × (k ≤ 8) × (v < limit k) × (take n (b ∷ s) ≡ form k v)
     go k f h = let i = made k b s v n m h in (k, f.most, below k b s v n m f w.1 i, rw i.length_is (sym (form_is k b s v n m f w.1 i)))
 
-pub var_local : (s : List ℕ) (v n : ℕ) (m : Bool) → var_uint s ≡ Whole v n m → (t : List ℕ) → var_uint (take n s ++ t) ≡ Whole v n m
+pub var_local : (s : List ℕ) (v n : ℕ) (m : Bool) → var_uint s ≡ whole v n m → (t : List ℕ) → var_uint (take n s ++ t) ≡ whole v n m
 unfolding var_uint
 var_local [] v n m h t = let z : ◌≡◌ {A = ℕ} 0 1 = cc in absurd (omega arith)
 var_local (b ∷ s) v n m h t = go (following b) refl h
   where
-    go : (k : ℕ) → following b ≡ k → answer k b s ≡ Whole v n m → var_uint (take n (b ∷ s) ++ t) ≡ Whole v n m
+    go : (k : ℕ) → following b ≡ k → answer k b s ≡ whole v n m → var_uint (take n (b ∷ s) ++ t) ≡ whole v n m
     go k f h =
         let i = made k b s v n m h in
         let c : length (take k s) ≡ k = length-take-le k s i.room in
         let e : take k (take k s ++ t) ≡ take k s = take_at (take k s) t k c in
         let w : k ≤ length (take k s ++ t) = omega (arith, length-append (take k s) t) in
-        rw (i.length_is, f, answer_whole k b (take k s ++ t) w, e) (sym (answer_whole k b s i.room) ∙ h ∙ ap (λ x. Whole v x m) i.length_is)
+        rw (i.length_is, f, answer_whole k b (take k s ++ t) w, e) (sym (answer_whole k b s i.room) ∙ h ∙ ap (λ x. whole v x m) i.length_is)

@@ -1,8 +1,8 @@
 -- The VarUInt (document 01, "Numbers and the VarUInt").
-use Rattle.std.specs.Prelude.{ℕ, zero, suc, ◌+◌, ◌-◌, ◌*◌, ◌/◌, ◌^◌, Bool, cond, List, [], ◌∷◌, length, take, get_or, ltb, leb}
+use Rattle.std.specs.Prelude.{ℕ, suc, ◌+◌, ◌-◌, ◌/◌, ◌^◌, Bool, cond, List, [], ◌∷◌, length, take, get_or, ltb, leb, Result, Ok, Err}
 use Rattle.number.specs.BigEndian.{behind, to_bytes}
 use Rattle.number.specs.declared.VarUInt.{VarUInt}
-use Rattle.number.specs.declared.VarUInt.TheVariants.{Cut, Whole}
+use Rattle.number.specs.declared.Cut.{Cut}
 
 -- how many of the bounds, in order, are reached
 abbrev pub reached : List ℕ → ℕ → ℕ
@@ -32,19 +32,27 @@ following b = reached leads b
 abbrev pub value_of : ℕ → ℕ → List ℕ → ℕ
 value_of n b s = behind (b - lead n) (take n s)
 
+-- the part cuts the number off: how many bytes are missing
+abbrev pub cut : ℕ → Result VarUInt Cut
+cut n = Err (record { missing = n })
+
+-- a number that is all there: its value, how many bytes it takes, and whether no shorter form holds the value
+abbrev pub whole : ℕ → ℕ → Bool → Result VarUInt Cut
+whole v n x = Ok (record { value = v; length = n; minimal = x })
+
 -- n bytes have to follow b: cut, and how many of them are missing; or whole
-abbrev pub answer : ℕ → ℕ → List ℕ → VarUInt
-answer n b s = cond (ltb (length s) n) (Cut (n - length s)) (Whole (value_of n b s) (suc n) (leb (bound n) (value_of n b s)))
+abbrev pub answer : ℕ → ℕ → List ℕ → Result VarUInt Cut
+answer n b s = cond (ltb (length s) n) (cut (n - length s)) (whole (value_of n b s) (suc n) (leb (bound n) (value_of n b s)))
 
 -- what stands at the front. Where nothing stands, one byte is missing: the first, which tells how many follow
-unfoldable pub var_uint : List ℕ → VarUInt
-var_uint [] = Cut 1
+unfoldable pub var_uint : List ℕ → Result VarUInt Cut
+var_uint [] = cut 1
 var_uint (b ∷ s) = answer (following b) b s
 
 -- for callers to whom every cut is the same: what is made of one, however many bytes are missing; and of a value, its length and whether that is minimal
-abbrev pub number_then : {B : Type 0} → B → (ℕ → ℕ → Bool → B) → VarUInt → B
-number_then cut whole (Cut n) = cut
-number_then cut whole (Whole v n x) = whole v n x
+abbrev pub number_then : {B : Type 0} → B → (ℕ → ℕ → Bool → B) → Result VarUInt Cut → B
+number_then halt go (Ok n) = go n.value n.length n.minimal
+number_then halt go (Err c) = halt
 
 -- the form with n bytes behind the first
 abbrev pub form : ℕ → ℕ → List ℕ

@@ -1,56 +1,24 @@
 #![tactic(auto)]
 // Numbers (document 01, "Numbers and the VarUInt").
-ghost use Rattle.std.specs.Prelude.{◌≡◌, ◌-◌, ◌^◌, ◌≤◌, ◌<◌, length, take, drop};
+ghost use Rattle.std.specs.Prelude.{◌≡◌, ◌-◌, ◌^◌, ◌≤◌, ◌<◌};
 ghost use Rattle.number.specs.BigEndian.{behind};
 ghost use Rattle.number.specs.VarUInt as var;
 ghost use Rattle.number.specs.Fixed.{fixed32, fixed64};
 ghost use Rattle.number.specs.Negative.{negative};
 ghost use Rattle.number.specs.Signed.{from_twos};
 
-// What stands at the front of a part: a VarUInt that the part cuts off, with how many of the bytes that its first byte calls for are missing, 1 for
-// an empty part; or a whole one, with its value, how many bytes it takes, and whether no shorter form holds the value.
-#[derive(Clone, Copy)]
-pub enum VarUInt {
-    Cut {
-        missing: usize,
-    },
-    Whole {
-        value: u64,
-        length: usize,
-        minimal: bool,
-    },
+// A number, read: its value, how many bytes it takes, and whether no shorter form holds the value.
+#[derive(Clone, Copy, Debug, PartialEq, Eq)]
+pub struct VarUInt {
+    pub value: u64,
+    pub length: usize,
+    pub minimal: bool,
 }
 
-#[derive(Clone, Copy)]
-pub enum Fixed32 {
-    Cut,
-    Whole(u32),
-}
-
-#[derive(Clone, Copy)]
-pub enum Fixed64 {
-    Cut,
-    Whole(u64),
-}
-
-#[derive(Clone, Copy)]
-pub enum Negative {
-    Is(i64),
-    OutOfRange,
-}
-
-fn wide(b: u8) -> u64
-    ensures { result ≡ b }
-{
-    b as u64
-}
-
-// The least first byte with n bytes behind it.
-fn lead(n: usize) -> u64
-    requires { n ≤ 8 }
-    ensures { result ≡ var.lead n }
-{
-    255 - (255 >> n)
+// The part cuts it off: how many of the bytes that its first byte calls for are missing, 1 for an empty part.
+#[derive(Clone, Copy, Debug, PartialEq, Eq)]
+pub struct Cut {
+    pub missing: usize,
 }
 
 // The least value that needs n bytes behind the first.
@@ -61,86 +29,83 @@ fn bound(n: usize) -> u64
     1 << (7 * n)
 }
 
-// How many bytes follow the first byte: as many as it has leading one bits, which are the leading zeros of its complement.
-fn following(b: u8) -> usize
-    ensures { result ≡ var.following b }
+// How many bytes follow the first byte: as many as it has leading one bits, which are the leading zeros of its complement. (Not `leading_ones`: document 01
+// names this form, "The forms we use".)
+fn following(first: u8) -> usize
+    ensures { result ≡ var.following first }
 {
-    u8::leading_zeros(!b) as usize
+    (!first).leading_zeros() as usize
 }
 
-// The number that `first` and then the bytes from `from` to `to` make.
-fn gather(part: &[u8], first: u64, from: usize, to: usize) -> u64
-    requires { (from ≤ to) × (to ≤ length part.now) × (behind first (take (to - from) (drop from part.now)) < 2 ^ 64) }
-    ensures { result ≡ behind first (take (to - from) (drop from part.now)) }
+// What the first byte has behind its leading one bits and the zero that ends them: the front of the value.
+fn front(first: u8, n: usize) -> u64
+    requires { n ≡ var.following first }
+    ensures { result ≡ first - var.lead n }
 {
-    let mut value = first;
-    let mut i = from;
-    while i < to {
-        value = value * 256 + wide(part[i]);
-        i += 1;
+    u64::from(first) & (127 >> n)
+}
+
+// The number that `front` and then the bytes make.
+fn gather(front: u64, bytes: &[u8]) -> u64
+    requires { behind front bytes.now < 2 ^ 64 }
+    ensures { result ≡ behind front bytes.now }
+{
+    let mut value = front;
+    for byte in bytes {
+        value = value * 256 + u64::from(*byte);
     }
     value
 }
 
-pub fn read(part: &[u8]) -> VarUInt
+// The number that stands at the front of a part.
+pub fn read(part: &[u8]) -> Result<VarUInt, Cut>
     ensures { result ≡ var.var_uint part.now }
 {
-    if part.len() == 0 {
-        return VarUInt::Cut { missing: 1 };
-    }
-    let b = part[0];
-    let n = following(b);
+    let Some((first, rest)) = part.split_first() else {
+        return Err(Cut { missing: 1 });
+    };
+    let n = following(*first);
     if n == 0 {
-        return VarUInt::Whole {
-            value: wide(b),
+        return Ok(VarUInt {
+            value: u64::from(*first),
             length: 1,
             minimal: true,
-        };
+        });
     }
-    if part.len() <= n {
-        return VarUInt::Cut {
-            missing: n - (part.len() - 1),
-        };
+    if rest.len() < n {
+        return Err(Cut {
+            missing: n - rest.len(),
+        });
     }
-    let value = gather(part, wide(b) - lead(n), 1, n + 1);
-    VarUInt::Whole {
+    let value = gather(front(*first, n), &rest[..n]);
+    Ok(VarUInt {
         value,
         length: n + 1,
         minimal: bound(n) <= value,
-    }
+    })
 }
 
-pub fn read32(part: &[u8]) -> Fixed32
+pub fn read32(part: &[u8]) -> Option<u32>
     ensures { result ≡ fixed32 part.now }
 {
-    if part.len() < 4 {
-        return Fixed32::Cut;
-    }
-    Fixed32::Whole(gather(part, 0, 0, 4) as u32)
+    part.first_chunk().map(|bytes| u32::from_be_bytes(*bytes))
 }
 
-pub fn read64(part: &[u8]) -> Fixed64
+pub fn read64(part: &[u8]) -> Option<u64>
     ensures { result ≡ fixed64 part.now }
 {
-    if part.len() < 8 {
-        return Fixed64::Cut;
-    }
-    Fixed64::Whole(gather(part, 0, 0, 8))
+    part.first_chunk().map(|bytes| u64::from_be_bytes(*bytes))
 }
 
 // Minus (m plus 1), exact to -2^63.
-pub fn minus_plus_one(m: u64) -> Negative
+pub fn minus_plus_one(m: u64) -> Option<i64>
     ensures { result ≡ negative m }
 {
-    if m < 0x8000000000000000 {
-        let x = m as i64;
-        Negative::Is(-x - 1)
-    } else {
-        Negative::OutOfRange
-    }
+    let x = i64::try_from(m).ok()?;
+    Some(-x - 1)
 }
 
-// Two's complement of 64 bits.
+// Two's complement of 64 bits. (Not `cast_signed`: by negation and subtraction, as document 01 names it, "The forms we use".)
 pub fn ticks(m: u64) -> i64
     ensures { result ≡ from_twos m }
 {

@@ -5,24 +5,33 @@ ghost use Rattle.format.specs.Limits.{length_limit};
 ghost use Rattle.format.specs.Parse.{whole};
 ghost use Rattle.format.specs.Payload.{head};
 ghost use Rattle.places.specs.Places.{check, checked};
+ghost use Rattle.open.specs.Code.{end_of};
 ghost use Rattle.open.specs.Opening.{opened_by};
 
 use faults::Modes;
-use format::{Form, Kind, Known, Stop};
+use format::{Form, Kind, Stop};
 use leaves::Heading;
-use places::{Checked, Place};
+use places::Place;
 
 // A place that was checked: a leaf's; or a container's, how its fields or items stand, and where its contents begin (they end with the place).
 #[derive(Clone, Copy)]
 pub enum Opened {
-    Stop(Stop),
     Leaf,
     Fields { form: Form, begin: usize },
     Items { form: Form, begin: usize },
 }
 
+fn end_of(heading: Heading) -> usize
+    ensures { result ≡ end_of heading }
+{
+    match heading {
+        Heading::Leaf { end, .. } | Heading::Fields { end, .. } | Heading::Items { end, .. } => end,
+    }
+}
+
 // A payload, from a start on, which has to fill the part.
-fn open_in(part: &[u8], kind: Kind, start: usize) -> Opened
+#[tactic(auto, using(crate::proofs::FillLaws::fill_laws))]
+fn open_in(part: &[u8], kind: Kind, start: usize) -> Result<Opened, Stop>
     requires { start + length part.now ≤ length_limit }
     ensures { result ≡ opened_by (start + length part.now) (whole (head kind part.now) []) }
 {
@@ -30,84 +39,48 @@ fn open_in(part: &[u8], kind: Kind, start: usize) -> Opened
         names: false,
         format: false,
     };
-    let faults = faults::no_faults();
     let length = part.len();
-    match head::head_of(part, kind, modes, faults) {
-        Heading::Stop(stop) => Opened::Stop(stop),
-        Heading::Leaf { end, faults: _ } => {
-            if end < length {
-                return Opened::Stop(Stop::Early);
-            }
-            Opened::Leaf
-        }
-        Heading::Fields {
+    let heading = head::head_of(part, kind, modes, faults::no_faults())?;
+    if end_of(heading) < length {
+        return Err(Stop::Early);
+    }
+    match heading {
+        Heading::Leaf { .. } => Ok(Opened::Leaf),
+        Heading::Fields { form, begin, .. } => Ok(Opened::Fields {
             form,
-            begin,
-            end,
-            faults: _,
-        } => {
-            if end < length {
-                return Opened::Stop(Stop::Early);
-            }
-            Opened::Fields {
-                form: form,
-                begin: start + begin,
-            }
-        }
-        Heading::Items {
+            begin: start + begin,
+        }),
+        Heading::Items { form, begin, .. } => Ok(Opened::Items {
             form,
-            count: _,
-            begin,
-            end,
-            faults: _,
-        } => {
-            if end < length {
-                return Opened::Stop(Stop::Early);
-            }
-            Opened::Items {
-                form: form,
-                begin: start + begin,
-            }
-        }
+            begin: start + begin,
+        }),
     }
 }
 
 // The check of a place, in its order.
-pub fn open_place(payload: &[u8], place: Place) -> Opened
+#[tactic(auto, using(crate::proofs::OpenLaws::place_laws))]
+pub fn open_place(payload: &[u8], place: Place) -> Result<Opened, Stop>
     ensures { result ≡ opened_by place.end (check payload.now place) }
 {
     let start = place.start;
     let end = place.end;
     let depth = place.depth;
     if Place::LENGTH < payload.len() {
-        return Opened::Stop(Stop::TooLong);
+        return Err(Stop::TooLong);
     }
-    if end < start {
-        return Opened::Stop(Stop::Early);
+    let part = payload.get(start..end).ok_or(Stop::Early)?;
+    if depth == 0 || Place::DEPTH < depth {
+        return Err(Stop::TooDeep);
     }
-    if payload.len() < end {
-        return Opened::Stop(Stop::Early);
-    }
-    if depth == 0 {
-        return Opened::Stop(Stop::TooDeep);
-    }
-    if Place::DEPTH < depth {
-        return Opened::Stop(Stop::TooDeep);
-    }
-    match format::known_of(place.kind) {
-        Known::Unknown => Opened::Stop(Stop::Unknown),
-        Known::Is(kind) => open_in(&payload[start..end], kind, start),
-    }
+    let kind = format::known_of(place.kind).ok_or(Stop::Unknown)?;
+    open_in(part, kind, start)
 }
 
 // The check of a place, as a call of its own: it says why a view of a place is refused.
-pub fn checked(payload: &[u8], place: Place) -> Checked
+#[tactic(auto, using(crate::proofs::OpenLaws::checked_laws))]
+pub fn checked(payload: &[u8], place: Place) -> Result<(), Stop>
     ensures { result ≡ checked payload.now place }
 {
-    match open_place(payload, place) {
-        Opened::Stop(stop) => Checked::Fault(stop),
-        Opened::Leaf => Checked::Good,
-        Opened::Fields { form: _, begin: _ } => Checked::Good,
-        Opened::Items { form: _, begin: _ } => Checked::Good,
-    }
+    open_place(payload, place)?;
+    Ok(())
 }

@@ -1,11 +1,13 @@
 -- Two sorted runs that stand one behind the other are put in order.
-use Prim.Native.Nat.{ℕ, suc, ◌<◌}
+use Prim.Native.Nat.{ℕ, suc, ◌+◌, ◌<◌}
 use native.Mathlib.Omega.{arith}
 use mathlib.Core.Path.{◌≡◌, refl, sym, ap, ◌∙◌}
 use mathlib.Core.Bool.{Bool, true}
 use mathlib.Core.List.{List, [], ◌∷◌, ◌++◌, append_assoc}
 use lib.ListN.{length, take, drop, get_or, get_or-append}
-use lib.Seq.{take_all, take-suc, take_at, drop_at, take-take, get_or-take, get_or_at}
+use lib.Seq.{paste, length-take-le, take_all, take-suc, take_at, drop_at, take-take, get_or-take, get_or_at}
+use Rattle.std.proofs.lemmas.List.{drop-take}
+use Rattle.std.proofs.lemmas.List.Edits.{take-paste}
 use Rattle.compare.specs.Order.{upto}
 use Rattle.order.specs.Arranged.{ordered}
 use Rattle.order.specs.Sorted.{Below, Sorted}
@@ -21,6 +23,18 @@ joined s (z ∷ xs) x ys v w =
     last_below : (z : ℕ) (xs : List ℕ) → Below s z (xs ++ (x ∷ [])) → upto s z x ≡ true
     last_below z [] b = b.0
     last_below z (u ∷ xs) b = last_below z xs b.1
+
+-- the first m numbers are copied to the room
+pub copied : (t t' : List ℕ) (m n k room : ℕ) → Holds t n room → m < n → k ≡ m → length t' ≡ length t → t' ≡ paste t room t k → Copies m room t t'
+copied t t' m n k room h l q e f =
+    let a : length (take room t) ≡ room = length-take-le room t (omega (arith, h.fits)) in
+    let b : take (room + m) t' ≡ take room t ++ take m t =
+    ap (take (room + m)) (f ∙ ap (paste t room t) q) ∙ take-paste t room t m (omega (arith, h.fits)) (omega (arith, h.fits, h.apart)) in
+    record {
+      length_kept = e;
+      front = sym (take-take room (room + m) t' (omega arith)) ∙ (ap (take room) b ∙ take_at (take room t) (take m t) room a);
+      copied = sym (drop-take room m t') ∙ (ap (drop room) b ∙ drop_at (take room t) (take m t) room a);
+    }
 
 module _ (s : List ℕ) (m n room : ℕ) (t : List ℕ) (h : Holds t n room) where
   pub join_early : (o : Bool) (p : ℕ) → o ≡ upto s (get_or t p 0) (get_or t m 0) → o ≡ true → suc p ≡ m → m < n → Joins s m n room t t

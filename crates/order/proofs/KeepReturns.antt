@@ -1,5 +1,5 @@
 -- The entries that begin before a place are moved to the front.
-use Prim.Native.Nat.{ℕ, suc, ◌+◌, ◌%◌, ◌≤◌, ◌<◌}
+use Prim.Native.Nat.{ℕ, suc, ◌+◌, ◌≤◌, ◌<◌}
 use native.Mathlib.Omega.{arith}
 use native.Mathlib.Numerals.{add-one}
 use mathlib.Core.Path.{◌≡◌, refl, sym, ap, ◌∙◌}
@@ -8,31 +8,19 @@ use mathlib.Core.List.{List, [], ◌∷◌, ◌++◌, append-nil}
 use lib.ListN.{length, take, drop, get_or, set, length-set}
 use lib.Seq.{take-suc, take-suc-set, take-set-le, drop-set-lt, drop-drop, get_or-drop, length-take-le}
 use lib.Dec.{ltb}
-use borrow.Author.Tests.{lt-ltb, le-ltb}
+use mir.Val.{bool_byte}
 use Rattle.entries.specs.Entry.{begin_in}
 use Rattle.order.specs.Arranged.{before}
-use Rattle.order.specs.Passes.{count_before, Keeps}
+use Rattle.order.specs.Passes.{Keeps}
 use Rattle.order.proofs.KeptLaws.{before_append}
 
-module _ (l x b : ℕ) (e : b ≡ x % 16777216) where
-  pub counted_one : b < l → 1 ≡ count_before l x
-  unfolding count_before
-  counted_one k = rw (lt-ltb (begin_in x) l (omega arith))
+few_counted : (b : Bool) → cond b 1 0 ≤ 1
+few_counted true = omega arith
+few_counted false = omega arith
 
-  pub counted_none : l ≤ b → 0 ≡ count_before l x
-  unfolding count_before
-  counted_none k = rw (le-ltb (begin_in x) l (omega arith))
-
-few_counted : (l x : ℕ) → count_before l x ≤ 1
-unfolding count_before
-few_counted l x = go (ltb (begin_in x) l)
-  where
-    go : (b : Bool) → cond b 1 0 ≤ 1
-    go true = omega arith
-    go false = omega arith
-
-pub counted_few : (l x q : ℕ) → q ≡ count_before l x → q ≤ 1
-counted_few l x q e = omega (arith, few_counted l x)
+byte_is : (b : Bool) → bool_byte b ≡ cond b 1 0
+byte_is true = refl
+byte_is false = refl
 
 plus_none : (a : ℕ) → a + 0 ≡ a
 plus_none a = omega arith
@@ -65,15 +53,16 @@ module _ (l n : ℕ) (t₀ : List ℕ) where
     kept_front h true e = rw (e, add-one k) (take-suc-set t k (get_or t i 0) (omega (arith, w.few, w.length_kept)))
     kept_front h false e = rw (e, plus_none k, append-nil (take k t)) (take-set-le k t k (get_or t i 0) (omega arith))
 
-    pub keep_on : i < n → (q : ℕ) → q ≡ count_before l (get_or t i 0) → Keeping l n t₀ (set t k (get_or t i 0)) (k + q) (i + 1)
-    unfolding count_before
-    keep_on h q e = record {
-      length_kept = length-set t k (get_or t i 0) ∙ w.length_kept;
-      within = omega arith;
-      few = omega (arith, w.few, few_counted l (get_or t i 0), e);
-      is = rw (e, add-one i) (kept_front h (ltb (begin_in (get_or t i 0)) l) refl ∙ sym (next_before h));
-      rest = rw (add-one i) (drop-set-lt (suc i) t k (get_or t i 0) (omega (arith, w.few)) ∙ (sym (drop_drop' t) ∙ (ap (drop 1) w.rest ∙ drop_drop' t₀)));
-    }
+    pub keep_on : i < n → (b q : ℕ) → b ≡ begin_in (get_or t i 0) → q ≡ bool_byte (ltb b l) → Keeping l n t₀ (set t k (get_or t i 0)) (k + q) (i + 1)
+    keep_on h b q f g =
+        let e : q ≡ cond (ltb (begin_in (get_or t i 0)) l) 1 0 = g ∙ (byte_is (ltb b l) ∙ ap (λ (a : ℕ). cond (ltb a l) 1 0) f) in
+        record {
+          length_kept = length-set t k (get_or t i 0) ∙ w.length_kept;
+          within = omega arith;
+          few = omega (arith, w.few, few_counted (ltb (begin_in (get_or t i 0)) l), e);
+          is = rw (e, add-one i) (kept_front h (ltb (begin_in (get_or t i 0)) l) refl ∙ sym (next_before h));
+          rest = rw (add-one i) (drop-set-lt (suc i) t k (get_or t i 0) (omega (arith, w.few)) ∙ (sym (drop_drop' t) ∙ (ap (drop 1) w.rest ∙ drop_drop' t₀)));
+        }
       where
         drop_drop' : (u : List ℕ) → drop 1 (drop i u) ≡ drop (suc i) u
         drop_drop' u = drop-drop 1 i u ∙ ap (λ (a : ℕ). drop a u) (add-one i)

@@ -1,7 +1,6 @@
 pub mod SortedLaws
 pub mod NeighbourLaws
 pub mod KeptLaws
-mod CopyReturns
 mod MergeReturns
 mod JoinReturns
 mod SortReturns

@@ -6,8 +6,8 @@ use Rattle.text.specs.Equal.{equal}
 use Rattle.entries.specs.Entry.{bytes_at}
 use Rattle.compare.specs.Order.{order, upto}
 use Rattle.entries.specs.Least.{is_first, is_twin, least_of}
-use Rattle.order.specs.Arranged.{before, kept, inserted, ordered, settled, arranged, afterwards}
-use Rattle.order.specs.declared.Arranged.TheVariants.{NoRoom, Done}
+use Rattle.order.specs.Arranged.{before, kept, inserted, ordered, settled, arranged, afterwards, done}
+use Rattle.std.proofs.Common.{None}
 
 -- "ab", "b", "ab", "a", "ab", and names that only a byte in the middle tells apart: "ayb", "axb"
 abbrev part : List ℕ
@@ -53,16 +53,16 @@ arrangements : arranged part (b ∷ ab ∷ []) 0
     ∷ arranged part (ab₂ ∷ b ∷ ab ∷ a ∷ 5 ∷ 6 ∷ 7 ∷ 8 ∷ 9 ∷ []) 4
     ∷ arranged part (ab₃ ∷ ab₂ ∷ ab ∷ 4 ∷ 5 ∷ 6 ∷ []) 3
     ∷ []
-    ≡ afterwards (Done 0 16777216) (b ∷ ab ∷ [])
-    ∷ afterwards (Done 3 16777216) (a ∷ b ∷ ab ∷ 0 ∷ 0 ∷ 0 ∷ 10 ∷ [])
-    ∷ afterwards (Done 2 3) (b ∷ ab ∷ 0 ∷ 0 ∷ 0 ∷ 0 ∷ 0 ∷ 0 ∷ 9 ∷ [])
-    ∷ afterwards (Done 1 3) (ab ∷ 0 ∷ 0 ∷ 0 ∷ 0 ∷ 0 ∷ [])
+    ≡ afterwards (done 0 16777216) (b ∷ ab ∷ [])
+    ∷ afterwards (done 3 16777216) (a ∷ b ∷ ab ∷ 0 ∷ 0 ∷ 0 ∷ 10 ∷ [])
+    ∷ afterwards (done 2 3) (b ∷ ab ∷ 0 ∷ 0 ∷ 0 ∷ 0 ∷ 0 ∷ 0 ∷ 9 ∷ [])
+    ∷ afterwards (done 1 3) (ab ∷ 0 ∷ 0 ∷ 0 ∷ 0 ∷ 0 ∷ [])
     ∷ []
 unfolding bytes_at equal order upto is_first is_twin least_of before inserted ordered settled arranged
 arrangements = refl
 
 -- one more than there is room for
 refused : arranged part (b ∷ ab ∷ []) 2 ∷ arranged part (b ∷ ab ∷ a ∷ 7 ∷ 8 ∷ 9 ∷ 10 ∷ []) 4 ∷ arranged part [] 1 ∷ []
-    ≡ afterwards NoRoom (b ∷ ab ∷ []) ∷ afterwards NoRoom (b ∷ ab ∷ a ∷ 7 ∷ 8 ∷ 9 ∷ 10 ∷ []) ∷ afterwards NoRoom [] ∷ []
+    ≡ afterwards None (b ∷ ab ∷ []) ∷ afterwards None (b ∷ ab ∷ a ∷ 7 ∷ 8 ∷ 9 ∷ 10 ∷ []) ∷ afterwards None [] ∷ []
 unfolding arranged
 refused = refl

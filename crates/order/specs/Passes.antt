@@ -1,5 +1,5 @@
 -- What the functions of this crate tell each other of the table. No public contract cites it.
-use Rattle.std.specs.Prelude.{ℕ, ◌+◌, ◌≤◌, ◌<◌, ◌≡◌, Bool, true, false, cond, List, ◌++◌, length, take, drop, get_or, ltb}
+use Rattle.std.specs.Prelude.{ℕ, ◌+◌, ◌≤◌, ◌<◌, ◌≡◌, Bool, true, false, cond, List, ◌++◌, length, take, drop, get_or}
 use Rattle.entries.specs.Entry.{begin_in}
 use Rattle.compare.specs.Order.{upto}
 use Rattle.entries.specs.Least.{is_first, lesser, least}
@@ -67,9 +67,6 @@ pub record Tells (s t : List ℕ) (n l : ℕ) : Type 0 where
 -- y behind x, where the first twin up to x begins at l
 abbrev pub least_next : List ℕ → ℕ → ℕ → ℕ → ℕ
 least_next s x y l = cond (is_first s x y) (lesser (begin_in y) l) l
-
-unfoldable pub count_before : ℕ → ℕ → ℕ
-count_before l x = cond (ltb (begin_in x) l) 1 0
 
 -- of the first n numbers those that begin before l stand in front, k of them
 pub record Keeps (l n k : ℕ) (t t' : List ℕ) : Type 0 where

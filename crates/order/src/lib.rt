@@ -1,26 +1,14 @@
 #![tactic(auto)]
 // The entries of a table, put in the order of their names, up to the first that has the name of one before it.
-ghost use Rattle.std.specs.Prelude.{◌≡◌, ◌++◌, ◌+◌, ◌-◌, ◌*◌, ◌≤◌, ◌<◌, length, take, replicate};
+ghost use Rattle.std.specs.Prelude.{◌≡◌, ◌*◌, ◌≤◌, ◌<◌, length, Some};
 ghost use Rattle.order.specs.Arranged.{arranged, afterwards};
-ghost use Rattle.order.specs.Passes.{Holds, Halves, Copies, Merges, Joins, Sorts, Tells, Keeps, Seconds, least_next, count_before};
+ghost use Rattle.order.specs.Passes.{Holds, Halves, Copies, Merges, Joins, Sorts, Tells, Keeps, Seconds, least_next};
 
 // How many entries are kept, and where the first begins that is not, since an entry before it has its name.
-#[derive(Clone, Copy)]
-pub enum Arranged {
-    NoRoom,
-    Done { count: usize, least: usize },
-}
-
-// The first numbers of a table are copied to the room in it.
-fn copy(table: &mut [u64], m: usize, room: usize)
-    requires { Holds table.old m room }
-    ensures { Copies m room table.old table.new }
-{
-    let mut i = 0;
-    while i < m {
-        table[room + i] = table[i];
-        i += 1;
-    }
+#[derive(Clone, Copy, Debug, PartialEq, Eq)]
+pub struct Arranged {
+    pub count: usize,
+    pub least: usize,
 }
 
 // The entry of the second half is next: there is one, and it stands before that of the first.
@@ -28,10 +16,7 @@ fn is_second<'a>(part: &'a [u8], table: &'a [u64], x: u64, at: usize, n: usize) 
     requires { n ≤ length table.now }
     ensures { Seconds part.now table.now x at n result }
 {
-    if n <= at {
-        return false;
-    }
-    !compare::is_upto(part, x, table[at])
+    at < n && !compare::is_upto(part, x, table[at])
 }
 
 // Two sorted runs become one, from the front: m entries that stand in the room, and those from m to n.
@@ -41,6 +26,7 @@ fn merge(part: &[u8], table: &mut [u64], m: usize, n: usize, room: usize)
 {
     let mut i = 0;
     let mut j = 0;
+    // No `for`: a turn goes on in one run or in the other.
     while i < m {
         let x = table[room + i];
         if is_second(part, table, x, m + j, n) {
@@ -61,7 +47,7 @@ fn join(part: &[u8], table: &mut [u64], m: usize, n: usize, room: usize)
     if compare::is_upto(part, table[m - 1], table[m]) {
         return;
     }
-    copy(table, m, room);
+    table.copy_within(..m, room);
     merge(part, table, m, n, room);
 }
 
@@ -84,10 +70,7 @@ fn next_least(part: &[u8], x: u64, y: u64, least: usize) -> usize
     ensures { result ≡ least_next part.now x y least }
 {
     if pairs::is_first(part, x, y) {
-        let begin = entries::begin_of(y);
-        if begin < least {
-            return begin;
-        }
+        return entries::lesser(entries::begin_of(y), least);
     }
     least
 }
@@ -98,22 +81,10 @@ fn first_twin<'a>(part: &'a [u8], table: &'a [u64], n: usize) -> usize
     ensures { Tells part.now table.now n result }
 {
     let mut least = 16777216;
-    let mut i = 1;
-    while i < n {
-        least = next_least(part, table[i - 1], table[i], least);
-        i += 1;
+    for pair in table[..n].windows(2) {
+        least = next_least(part, pair[0], pair[1], least);
     }
     least
-}
-
-// 1 for an entry that begins before a place.
-fn counted(x: u64, least: usize) -> usize
-    ensures { result ≡ count_before least x }
-{
-    if entries::begin_of(x) < least {
-        return 1;
-    }
-    0
 }
 
 // The entries that begin before a place, moved to the front. Each is put where the next kept one goes: no branch goes by an entry.
@@ -122,50 +93,32 @@ fn keep(table: &mut [u64], n: usize, least: usize) -> usize
     ensures { Keeps least n result table.old table.new }
 {
     let mut k = 0;
-    let mut i = 0;
-    while i < n {
+    for i in 0..n {
         let x = table[i];
         table[k] = x;
-        k += counted(x, least);
-        i += 1;
+        k += usize::from(entries::begin_of(x) < least);
     }
     k
-}
-
-// All zero from a place on.
-fn clear(table: &mut [u64], from: usize)
-    requires { from ≤ length table.old }
-    ensures { table.new ≡ take from table.old ++ replicate (length table.old - from) 0 }
-{
-    let mut i = from;
-    while i < table.len() {
-        table[i] = 0;
-        i += 1;
-    }
 }
 
 // A table of n entries and as much room is arranged.
 fn settle(part: &[u8], table: &mut [u64], n: usize) -> Arranged
     requires { length table.old ≡ 2 * n }
-    ensures { afterwards result table.new ≡ arranged part.now table.old n }
+    ensures { afterwards (Some result) table.new ≡ arranged part.now table.old n }
 {
     sort(part, table, n, n);
     let least = first_twin(part, table, n);
     let count = keep(table, n, least);
-    clear(table, count);
-    Arranged::Done {
-        count: count,
-        least: least,
-    }
+    table[count..].fill(0);
+    Arranged { count, least }
 }
 
-// The first n entries of a table, with as much room behind them, are put in order, up to the first that has the name of one before it.
-pub fn arrange(part: &[u8], table: &mut [u64], n: usize) -> Arranged
+// The first n entries of a table, with as much room behind them, are put in order, up to the first that has the name of one before it. None: there is less.
+pub fn arrange(part: &[u8], table: &mut [u64], n: usize) -> Option<Arranged>
     ensures { afterwards result table.new ≡ arranged part.now table.old n }
 {
     if table.len() / 2 < n {
-        return Arranged::NoRoom;
+        return None;
     }
-    let size = 2 * n;
-    settle(part, &mut table[..size], n)
+    Some(settle(part, &mut table[..2 * n], n))
 }

@@ -1,76 +1,51 @@
 -- Bytes copied: what the code knows at each return.
 use Prim.Native.Nat.{ℕ, ◌+◌, ◌-◌, ◌≤◌, ◌<◌}
 use native.Mathlib.Omega.{arith}
-use native.Mathlib.Numerals.{add-one}
 use mathlib.Core.Path.{◌≡◌, refl, sym, ◌∙◌}
-use mathlib.Core.List.{List, [], ◌∷◌, ◌++◌}
-use lib.ListN.{length, drop, take, get_or, set, length-drop}
-use lib.Seq.{sets, take-suc, get_or-drop, length-take-le}
+use mathlib.Core.Bool.{true, false, ◌&&◌, and-false}
+use mathlib.Core.Logic.{◌⊎◌, inl, inr}
+use mathlib.Core.List.{List}
+use lib.ListN.{length}
+use lib.Dec.{leb}
+use lib.Seq.{sets, take-length}
 use borrow.Author.Tests.{le-leb, lt-leb}
+use borrow.Rule.Slice.PartMut.{put_mid}
+use Rattle.std.proofs.lemmas.Slice.{put_mid-paste}
+use Rattle.std.proofs.lemmas.List.Edits.{sets-eq}
 use Rattle.front.specs.Between.{between}
-use Rattle.frames.proofs.PlaceLaws.{sets_append}
 use Rattle.output.specs.Copied.{copied}
 
--- ---- the loop
-
-pub record Copied (s : List ℕ) (from to : ℕ) (start out : List ℕ) (i : ℕ) : Type 0 where
-  pub is : out ≡ sets start to (take i (drop from s))
-
-pub copied_start : (s : List ℕ) (from to : ℕ) (out : List ℕ) → Copied s from to out out 0
-copied_start s from to out = record { is = refl }
-
-pub copied_more : (s : List ℕ) (from to : ℕ) (start out : List ℕ) (i : ℕ) → Copied s from to start out i → from + i < length s → Copied s from to start
-    (set out (to + i) (get_or s (from + i) 0)) (i + 1)
-copied_more s from to start out i c h =
-    let l : i < length (drop from s) = rw (length-drop from s) (omega arith) in
-    let n : length (take i (drop from s)) ≡ i = length-take-le i (drop from s) (omega arith) in
-    let z : sets (sets start to (take i (drop from s))) (to + length (take i (drop from s))) (get_or (drop from s) i 0 ∷ []) ≡ sets start to
-    (take i (drop from s) ++ (get_or (drop from s) i 0 ∷ [])) = sets_append (take i (drop from s)) (get_or (drop from s) i 0 ∷ []) start to in
-    record { is = rw (add-one i, take-suc (drop from s) i 0 l, ← z, n, get_or-drop, ← c.is) }
-
-pub copied_end : (s : List ℕ) (from end to : ℕ) (start out : List ℕ) (i : ℕ) → Copied s from to start out i → i ≤ end - from → end - from ≤ i → out ≡ sets
-    start to (between from end s)
-copied_end s from end to start out i c l h = let z : i ≡ end - from = omega arith in c.is ∙ rw z
+-- bytes put in the place of as many
+placed : (to : ℕ) (o ys z : List ℕ) → z ≡ ys → to + length ys ≤ length o → put_mid to (to + length ys - to) o z ≡ sets o to ys
+placed to o ys z e h =
+    put_mid-paste to (to + length ys - to) o z ys (length ys) e (omega arith) refl
+    ∙ rw (take-length ys) (sym (sets-eq ys o to h))
 
 -- ---- where there is no room, and where there is
 
-less_room : (a t d : ℕ) → t ≤ a → a - t < d → a < t + d
-less_room a t d l h = omega arith
-
-more_room : (a t d : ℕ) → t ≤ a → d ≤ a - t → t + d ≤ a
-more_room a t d l h = omega arith
-
 module _ (s : List ℕ) (from end : ℕ) (o : List ℕ) (to : ℕ) where
-  pub copy_back : end < from → o ≡ copied s from end o to
+  none : (leb from end && (leb end (length s) && leb (to + (end - from)) (length o))) ≡ false → o ≡ copied s from end o to
   unfolding copied
-  copy_back h = rw (lt-leb from end h)
+  none h = rw h
 
-  module _ (l : from ≤ end) where
-    pub copy_past : length s < end → o ≡ copied s from end o to
-    unfolding copied
-    copy_past h = rw (le-leb from end l, lt-leb end (length s) h)
+  all : (leb from end && (leb end (length s) && leb (to + (end - from)) (length o))) ≡ true → sets o to (between from end s) ≡ copied s from end o to
+  unfolding copied
+  all h = rw h
 
-    module _ (m : end ≤ length s) where
-      none : length o < to + (end - from) → o ≡ copied s from end o to
-      unfolding copied
-      none h = rw (le-leb from end l, le-leb end (length s) m, lt-leb (to + (end - from)) (length o) h)
+  pub copy_past : (end < from) ⊎ (length s < end) → o ≡ copied s from end o to
+  copy_past (inl h) = none (rw (lt-leb from end h))
+  copy_past (inr h) = none (rw (lt-leb end (length s) h) (and-false (leb from end)))
 
-      all : to + (end - from) ≤ length o → sets o to (between from end s) ≡ copied s from end o to
-      unfolding copied
-      all h = rw (le-leb from end l, le-leb end (length s) m, le-leb (to + (end - from)) (length o) h)
+  module _ (l : from ≤ end) (m : end ≤ length s) where
+    within : to + (end - from) ≤ length o → (leb from end && (leb end (length s) && leb (to + (end - from)) (length o))) ≡ true
+    within h = rw (le-leb from end l, le-leb end (length s) m, le-leb (to + (end - from)) (length o) h)
 
-      pub copy_behind : length o < to → o ≡ copied s from end o to
-      copy_behind h = none (omega arith)
+    pub copied_is : to + (end - from) ≤ length o → (p : List ℕ) → p ≡ copied s from end o to → p ≡ sets o to (between from end s)
+    copied_is h p e = e ∙ sym (all (within h))
 
-      pub copied_is : to + (end - from) ≤ length o → (p : List ℕ) → p ≡ copied s from end o to → p ≡ sets o to (between from end s)
-      copied_is h p e = e ∙ sym (all h)
+    pub copy_few : length o < to + (end - from) → o ≡ copied s from end o to
+    copy_few h = none (rw (le-leb from end l, le-leb end (length s) m, lt-leb (to + (end - from)) (length o) h))
 
-      module _ (h : to ≤ length o) where
-        pub copy_few : length o - to < end - from → o ≡ copied s from end o to
-        copy_few k = none (less_room (length o) to (end - from) h k)
-
-        pub copy_room : end - from ≤ length o - to → to + (end - from) ≤ length o
-        copy_room k = more_room (length o) to (end - from) h k
-
-        pub copy_done : end - from ≤ length o - to → (p : List ℕ) → p ≡ sets o to (between from end s) → p ≡ copied s from end o to
-        copy_done k p e = e ∙ all (copy_room k)
+    pub copy_done : (ys z : List ℕ) → ys ≡ between from end s → length ys + from ≡ end → to + length ys ≤ length o → z ≡ ys
+        → put_mid to (to + length ys - to) o z ≡ copied s from end o to
+    copy_done ys z y k h e = placed to o ys z e h ∙ (rw y (all (within (omega arith))))

@@ -1,5 +1,5 @@
 -- Entries compared in pairs: one more entry with all before it, and so all of them.
-use Prim.Native.Nat.{ℕ, ◌+◌, ◌/◌, ◌%◌, ◌≤◌, ◌<◌}
+use Prim.Native.Nat.{ℕ, min, ◌+◌, ◌/◌, ◌%◌, ◌≤◌, ◌<◌}
 use native.Mathlib.Omega.{arith}
 use native.Mathlib.Numerals.{add-one}
 use mathlib.Core.Path.{◌≡◌, refl, sym, ap, ◌∙◌}
@@ -8,10 +8,10 @@ use mathlib.Core.List.{List, [], ◌∷◌, ◌++◌}
 use lib.ListN.{length, take, get_or}
 use lib.Seq.{take-suc, take_all}
 use lib.Dec.{ltb}
-use borrow.Author.Tests.{ltb-false}
-use Rattle.number.proofs.Clash.{clash}
-use Rattle.compare.specs.declared.Order.{Order}
-use Rattle.compare.specs.declared.Order.TheVariants as O
+use borrow.Author.Tests.{ltb-true, ltb-false, le-ltb}
+use Rattle.std.specs.declared.cmp.Ordering.{Ordering}
+use Rattle.std.specs.declared.cmp.Ordering.TheVariants.{Less, Equal, Greater}
+use Rattle.std.specs.Ordering.{is_eq}
 use Rattle.compare.specs.Order.{order}
 use Rattle.compare.proofs.OrderLaws.{order_refl, order_same}
 use Rattle.entries.specs.Entry.{begin_in, name_in}
@@ -24,29 +24,18 @@ use Rattle.entries.proofs.LeastLaws.{first_is, is_first_law, lesser_left, lesser
 -- ---- two entries
 
 module _ (s : List ℕ) (x y : ℕ) where
-  module _ (o : Order) (h : o ≡ order (name_in s x) (name_in s y)) where
-    pub first_same : o ≡ O.Same → x % 16777216 < y % 16777216 → true ≡ is_first s x y
-    first_same e l = sym (is_first_law s x y l (order_same (name_in s x) (name_in s y) (sym h ∙ e)))
-
-    not_first : (o ≡ O.Same → ⊥) → false ≡ is_first s x y
-    not_first f = go (is_first s x y) refl
-      where
-        go : (q : Bool) → is_first s x y ≡ q → false ≡ q
-        go true e = absurd (f (h ∙ (ap (λ (n : List ℕ). order n (name_in s y)) (first_is s x y e).1 ∙ order_refl (name_in s y))))
-        go false e = refl
-
-    pub first_less : o ≡ O.Less → false ≡ is_first s x y
-    first_less e = not_first (λ z. let q : O.Less ≡ O.Same = sym e ∙ z in clash cc)
-
-    pub first_more : o ≡ O.More → false ≡ is_first s x y
-    first_more e = not_first (λ z. let q : O.More ≡ O.Same = sym e ∙ z in clash cc)
-
-  pub first_later : y % 16777216 ≤ x % 16777216 → false ≡ is_first s x y
-  first_later l = go (is_first s x y) refl
+  pub first_by : x % 16777216 < y % 16777216 → is_eq (order (name_in s x) (name_in s y)) ≡ is_first s x y
+  first_by l = go (is_first s x y) (order (name_in s x) (name_in s y)) refl refl
     where
-      go : (q : Bool) → is_first s x y ≡ q → false ≡ q
-      go true e = absurd (omega (arith, (first_is s x y e).0))
-      go false e = refl
+      go : (q : Bool) (o : Ordering) → is_first s x y ≡ q → order (name_in s x) (name_in s y) ≡ o → is_eq o ≡ q
+      go true o h k = ap is_eq (sym k ∙ (ap (λ (n : List ℕ). order n (name_in s y)) (first_is s x y h).1 ∙ order_refl (name_in s y)))
+      go false Less h k = refl
+      go false Equal h k = sym (is_first_law s x y l (order_same (name_in s x) (name_in s y) k)) ∙ h
+      go false Greater h k = refl
+
+  pub first_later : y % 16777216 ≤ x % 16777216 → ltb (x % 16777216) (y % 16777216) ≡ is_first s x y
+  unfolding is_first
+  first_later l = rw (le-ltb (begin_in x) (begin_in y) l)
 
 other_key : (s : List ℕ) (x y : ℕ) → (x / 16777216 ≡ y / 16777216 → ⊥) → is_first s x y ≡ false
 other_key s x y f = go (is_first s x y) refl
@@ -156,55 +145,31 @@ past_least s t y = omega (arith, over, under)
 
 -- ---- the loops
 
-pub record Past (s t : List ℕ) (i y l j l' : ℕ) : Type 0 where
-  pub within : j ≤ i
-  pub is : l' ≡ least_past s (take j t) y l
-
-pub past_starts : (s t : List ℕ) (i y l : ℕ) → Past s t i y l 0 l
+-- y and the first k of some entries
+pub past_starts : (s t : List ℕ) (y l : ℕ) → l ≡ least_past s (take 0 t) y l
 unfolding least_past
-past_starts s t i y l = record { within = omega arith; is = go t }
-  where
-    go : (t : List ℕ) → l ≡ least_past s (take 0 t) y l
-    go [] = refl
-    go (x ∷ t) = refl
+past_starts s [] y l = refl
+past_starts s (x ∷ t) y l = refl
 
-pub past_on : (s t : List ℕ) (i y l j l' r : ℕ) → Past s t i y l j l' → i < length t → j < i → r ≡ least_with s (get_or t j 0) y l' → Past s t i y l (j + 1) r
-past_on s t i y l j l' r w m h e = record {
-  within = omega arith;
-  is = rw (add-one j, take-suc t j 0 (omega arith), past_append s (take j t) (get_or t j 0) y l, ← w.is) e;
-}
+pub past_on : (s t : List ℕ) (y l k l' : ℕ) → k < length t → l' ≡ least_past s (take k t) y l
+    → least_with s (get_or t k 0) y l' ≡ least_past s (take (k + 1) t) y l
+past_on s t y l k l' h e = rw (add-one k, take-suc t k 0 h, past_append s (take k t) (get_or t k 0) y l, ← e)
 
-pub past_ends : (s t : List ℕ) (i y l j l' : ℕ) → Past s t i y l j l' → i ≤ j → l' ≡ least_past s (take i t) y l
-past_ends s t i y l j l' w h = let z : j ≡ i = omega (arith, w.within) in w.is ∙ ap (λ (n : ℕ). least_past s (take n t) y l) z
+pub past_ends : (s t : List ℕ) (y l k l' : ℕ) → l' ≡ least_past s (take k t) y l → length t ≤ k → l' ≡ least_past s t y l
+past_ends s t y l k l' e h = e ∙ ap (λ (m : List ℕ). least_past s m y l) (take_all k t h)
 
-pub record Pairing (s t : List ℕ) (c l i : ℕ) : Type 0 where
-  pub within : i ≤ c
-  pub is : l ≡ least s (take i t)
-
-pub pair_starts : (s t : List ℕ) (c : ℕ) → Pairing s t c 16777216 0
+-- the first k entries
+pub pair_starts : (s t : List ℕ) → 16777216 ≡ least s (take 0 t)
 unfolding least_of
-pair_starts s t c = record { within = omega arith; is = go t }
+pair_starts s [] = refl
+pair_starts s (x ∷ t) = refl
+
+pub pair_on : (s t : List ℕ) (k l : ℕ) → k < length t → l ≡ least s (take k t) → least_past s (take k t) (get_or t k 0) l ≡ least s (take (k + 1) t)
+pair_on s t k l h e = rw (add-one k, take-suc t k 0 h, ← past_least s (take k t) (get_or t k 0), ← e)
+
+pub pair_ends : (s t : List ℕ) (n m k l : ℕ) → m ≡ min n (length t) → l ≡ least s (take k (take m t)) → length (take m t) ≤ k → l ≡ least s (take n t)
+pair_ends s t n m k l e q h = q ∙ ap (least s) (take_all k (take m t) h ∙ go (ltb n (length t)) refl)
   where
-    go : (t : List ℕ) → 16777216 ≡ least s (take 0 t)
-    go [] = refl
-    go (x ∷ t) = refl
-
-counted : (t : List ℕ) (n c : ℕ) → c ≡ lesser n (length t) → c ≤ length t
-counted t n c e = rw e (lesser_right n (length t))
-
-pub pair_inside : (t : List ℕ) (n c i : ℕ) → c ≡ lesser n (length t) → i < c → i < length t
-pair_inside t n c i e l = omega (arith, counted t n c e)
-
-pub pair_on : (s t : List ℕ) (n c l i r : ℕ) → Pairing s t c l i → c ≡ lesser n (length t) → i < c → r ≡ least_past s (take i t) (get_or t i 0) l
-    → Pairing s t c r (i + 1)
-pair_on s t n c l i r w e h q = record {
-  within = omega arith;
-  is = rw (add-one i, take-suc t i 0 (pair_inside t n c i e h), ← past_least s (take i t) (get_or t i 0), ← w.is) q;
-}
-
-pub pair_ends : (s t : List ℕ) (n c l i : ℕ) → Pairing s t c l i → c ≡ lesser n (length t) → c ≤ i → l ≡ least s (take n t)
-pair_ends s t n c l i w e h = let z : i ≡ c = omega (arith, w.within) in w.is ∙ ap (λ (m : ℕ). least s (take m t)) z ∙ go (ltb n (length t)) refl e
-  where
-    go : (o : Bool) → ltb n (length t) ≡ o → c ≡ cond o n (length t) → least s (take c t) ≡ least s (take n t)
-    go true q e = ap (λ (m : ℕ). least s (take m t)) e
-    go false q e = ap (least s) (ap (λ (m : ℕ). take m t) e ∙ take_all (length t) t (omega arith) ∙ sym (take_all n t (ltb-false n (length t) q)))
+    go : (o : Bool) → ltb n (length t) ≡ o → take m t ≡ take n t
+    go true p = let z : m ≡ n = omega (arith, e, ltb-true n (length t) p) in ap (λ (i : ℕ). take i t) z
+    go false p = take_all m t (omega (arith, e, ltb-false n (length t) p)) ∙ sym (take_all n t (ltb-false n (length t) p))

@@ -1,23 +1,14 @@
 #![tactic(auto)]
 // Entries of one name, and the first of some entries that has the name of one before it.
-ghost use Rattle.std.specs.Prelude.{◌≡◌, ◌<◌, length, take, get_or};
+ghost use Rattle.std.specs.Prelude.{◌≡◌, take};
 ghost use Rattle.entries.specs.Least.{is_first, least};
 ghost use Rattle.pairs.specs.Code.{least_with, least_past};
-
-use compare::Order;
 
 // The first begins before the second, and has its name.
 pub fn is_first(part: &[u8], x: u64, y: u64) -> bool
     ensures { result ≡ is_first part.now x y }
 {
-    if entries::begin_of(y) <= entries::begin_of(x) {
-        return false;
-    }
-    match compare::compare(part, x, y) {
-        Order::Less => false,
-        Order::Same => true,
-        Order::More => false,
-    }
+    entries::begin_of(x) < entries::begin_of(y) && compare::compare(part, x, y).is_eq()
 }
 
 // Where the first twin begins so far, with these two: most are told apart by their keys.
@@ -36,31 +27,26 @@ fn with(part: &[u8], x: u64, y: u64, least: usize) -> usize
     least
 }
 
-// The same with the entry at a place and all before it.
-fn past<'a>(part: &'a [u8], table: &'a [u64], i: usize, least: usize) -> usize
-    requires { i < length table.now }
-    ensures { result ≡ least_past part.now (take i table.now) (get_or table.now i 0) least }
+// The same with an entry and each of those before it.
+fn past<'a>(part: &'a [u8], before: &'a [u64], y: u64, least: usize) -> usize
+    ensures { result ≡ least_past part.now before.now y least }
 {
-    let y = table[i];
     let mut least_so_far = least;
-    let mut j = 0;
-    while j < i {
-        least_so_far = with(part, table[j], y, least_so_far);
-        j += 1;
+    for x in before {
+        least_so_far = with(part, *x, y, least_so_far);
     }
     least_so_far
 }
 
 // Where the first begins of the first n entries that has the name of one that begins before it; 16777216 if none has. They are compared in pairs.
+// (A number and no Option, here and above: it is the least of no places, so that what finds the least goes on from it.)
 pub fn first_twin<'a>(part: &'a [u8], table: &'a [u64], n: usize) -> usize
     ensures { result ≡ least part.now (take n table.now) }
 {
-    let count = entries::lesser(n, table.len());
+    let all = &table[..n.min(table.len())];
     let mut least = 16777216;
-    let mut i = 0;
-    while i < count {
-        least = past(part, table, i, least);
-        i += 1;
+    for (i, y) in all.iter().enumerate() {
+        least = past(part, &all[..i], *y, least);
     }
     least
 }

@@ -1,16 +1,16 @@
 -- The names of the frames in a part: no bound on how many matters once it is the length; and what the answer at a position says of them.
+use Rattle.std.specs.Prelude.{Option, None, Some}
+use Rattle.format.specs.declared.Kind.{Kind}
 use Prim.Native.Nat.{ℕ, zero, suc, ◌+◌, ◌-◌, ◌≤◌, ◌<◌}
 use native.Mathlib.Nat.{sub-zero}
 use native.Mathlib.Omega.{arith}
 use mathlib.Core.Path.{◌≡◌, refl, sym, ap, ◌∙◌}
 use mathlib.Core.Bool.{true}
-use mathlib.Core.Option.{Option, none, some}
+use mathlib.Core.Option.{Option as Optional, none, some}
 use mathlib.Core.List.{List, [], ◌∷◌, ◌++◌, append_assoc}
 use lib.ListN.{length, take, drop, length-append, take-append-drop}
 use lib.Seq.{length-take-le, take_at, drop_at}
 use Rattle.number.proofs.Clash.{clash}
-use Rattle.format.specs.declared.Known.{Known}
-use Rattle.format.specs.declared.Known.TheVariants.{Unknown, Is}
 use Rattle.format.specs.declared.Flaw.{Flaw}
 use Rattle.format.specs.Parse.{Out, fault, got}
 use Rattle.format.specs.Names.{read_name}
@@ -21,10 +21,11 @@ use Rattle.front.specs.Between.{between}
 use Rattle.front.proofs.BetweenLaws.{end_drop}
 use Rattle.frame.proofs.NameReturns.{name_parts}
 use Rattle.twins.specs.Walk.{onward}
-use Rattle.names.specs.declared.Name.TheVariants as N
 use Rattle.passing.specs.Pass.{pass_payload, pass_known, pass_over}
 use Rattle.passing.specs.FrameNames.{name_known, name_of, names_from, names_until, frame_names, name_in, name_at}
 use Rattle.passing.proofs.PassLaws.{pass_less, pass_payload_stands}
+use Rattle.names.specs.declared.Name.{Name}
+use Rattle.names.proofs.MadeLaws.{name_same}
 
 -- ---- the bound
 
@@ -33,7 +34,7 @@ from_same : (d : ℕ) (s : List ℕ) (o : Out (List ℕ)) (f g : List ℕ → Li
 from_same d s (fault k) f g e = refl
 from_same d s (got n fs q) f g e = ap (λ ns. n ∷ ns) (go (pass_over d true s) refl)
   where
-    go : (o : Option (List ℕ)) → pass_over d true s ≡ o → onward [] o f ≡ onward [] o g
+    go : (o : Optional (List ℕ)) → pass_over d true s ≡ o → onward [] o f ≡ onward [] o g
     go none i = refl
     go (some r) i = e r (pass_less d true s r i)
 
@@ -81,10 +82,10 @@ named_parts zero s h = clash cc
 named_parts (suc d) [] h = clash cc
 named_parts (suc d) (b ∷ s) {n} {fs} {q} h = go (writable b) h
   where
-    go : (o : Known) → name_known o s ≡ got n fs q
+    go : (o : Option Kind) → name_known o s ≡ got n fs q
         → (c : ℕ) × ((t : List ℕ) × (b ∷ s ≡ c ∷ t) × (read_name t ≡ got n fs q) × ((w : List ℕ) × (t ≡ w ++ (n ++ q))))
-    go Unknown h = clash cc
-    go (Is k) h = (b, (s, refl, h, name_parts s h))
+    go None h = clash cc
+    go (Some k) h = (b, (s, refl, h, name_parts s h))
 
 -- what is left behind the frame is left behind its name too
 pub named_passed : (d : ℕ) (s : List ℕ) {n : List ℕ} {fs : List Flaw} {q r : List ℕ} → name_of d s ≡ got n fs q → pass_over d true s ≡ some r
@@ -94,9 +95,9 @@ named_passed zero s h i = clash cc
 named_passed (suc d) [] h i = clash cc
 named_passed (suc d) (b ∷ s) {n} {fs} {q} {r} h i = go (writable b) h i
   where
-    go : (o : Known) → name_known o s ≡ got n fs q → pass_known (pass_over d) true o s ≡ some r → (u : List ℕ) × (q ≡ u ++ r)
-    go Unknown h i = clash cc
-    go (Is k) h i = let j : pass_payload (pass_over d) (payload k) q ≡ some r = rw h at i in let w = pass_payload_stands d k q r j in (w.0, w.1)
+    go : (o : Option Kind) → name_known o s ≡ got n fs q → pass_known (pass_over d) true o s ≡ some r → (u : List ℕ) × (q ≡ u ++ r)
+    go None h i = clash cc
+    go (Some k) h i = let j : pass_payload (pass_over d) (payload k) q ≡ some r = rw h at i in let w = pass_payload_stands d k q r j in (w.0, w.1)
 
 -- ---- the name at a position
 
@@ -130,20 +131,20 @@ found_front d a s c m q u r e i l j =
     })
 
 module _ (d a : ℕ) (s : List ℕ) where
-  pub none_at : name_at d a s ≡ N.Nothing → frame_names d (drop a s) ≡ []
+  pub none_at : name_at d a s ≡ None → frame_names d (drop a s) ≡ []
   unfolding name_at
   none_at h = names_step d (drop a s) ∙ go (name_of d (drop a s)) h
     where
-      go : (o : Out (List ℕ)) → name_in (length s) o (pass_over d true (drop a s)) ≡ N.Nothing → names_from o (pass_over d true (drop a s)) (frame_names d) ≡ []
+      go : (o : Out (List ℕ)) → name_in (length s) o (pass_over d true (drop a s)) ≡ None → names_from o (pass_over d true (drop a s)) (frame_names d) ≡ []
       go (fault k) h = refl
       go (got n fs q) h = clash cc
 
-  pub found_at : a ≤ length s → (b e n : ℕ) → name_at d a s ≡ N.At b e n → Found d s a b e n
+  pub found_at : a ≤ length s → (f : Name) → name_at d a s ≡ Some f → Found d s a f.begin f.end f.next
   unfolding name_at
-  found_at l b e n h = go (name_of d (drop a s)) refl (pass_over d true (drop a s)) refl h
+  found_at l f h = go (name_of d (drop a s)) refl (pass_over d true (drop a s)) refl h
     where
-      go : (o : Out (List ℕ)) → name_of d (drop a s) ≡ o → (p : Option (List ℕ)) → pass_over d true (drop a s) ≡ p → name_in (length s) o p ≡ N.At b e n
-          → Found d s a b e n
+      go : (o : Out (List ℕ)) → name_of d (drop a s) ≡ o → (p : Optional (List ℕ)) → pass_over d true (drop a s) ≡ p → name_in (length s) o p ≡ Some f
+          → Found d s a f.begin f.end f.next
       go (fault k) i p j h = clash cc
       go (got m fs q) i p j h = by p j h
         where
@@ -156,14 +157,11 @@ module _ (d a : ℕ) (s : List ℕ) where
               sym (take-append-drop a s) ∙ ap (λ t. take a s ++ t) (x.1.1 ∙ ap (λ t. x.0 ∷ t) x.1.3.1) ∙ sym (append_assoc (take a s) w (m ++ q)) in
               found_front d a s (take a s ++ w) m q u.0 r z u.1 (omega (arith, length-append (take a s) w, length-take-le a s l)) k
 
-          by : (p : Option (List ℕ)) → pass_over d true (drop a s) ≡ p → name_in (length s) (got m fs q) p ≡ N.At b e n → Found d s a b e n
+          by : (p : Optional (List ℕ)) → pass_over d true (drop a s) ≡ p → name_in (length s) (got m fs q) p ≡ Some f → Found d s a f.begin f.end f.next
           by none j h =
-              let x : length s - length q - length m ≡ b = cc in
-              let y : length s - length q ≡ e = cc in
-              let z : length s - 0 ≡ n = rw sub-zero (cc) in
-              rw (← x, ← y, ← z) (parts [] (q, sym (append_nil q)) (names_step d (drop a s) ∙ rw (i, j, names_nil d)))
+              let z = name_same h in
+              let y : length s - 0 ≡ f.next = rw sub-zero z.2 in
+              rw (← z.0, ← z.1, ← y) (parts [] (q, sym (append_nil q)) (names_step d (drop a s) ∙ rw (i, j, names_nil d)))
           by (some r) j h =
-              let x : length s - length q - length m ≡ b = cc in
-              let y : length s - length q ≡ e = cc in
-              let z : length s - length r ≡ n = cc in
-              rw (← x, ← y, ← z) (parts r (named_passed d (drop a s) i j) (names_step d (drop a s) ∙ rw (i, j)))
+              let z = name_same h in
+              rw (← z.0, ← z.1, ← z.2) (parts r (named_passed d (drop a s) i j) (names_step d (drop a s) ∙ rw (i, j)))

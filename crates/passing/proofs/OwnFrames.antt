@@ -1,4 +1,6 @@
 -- The frames of an object, as its reader meets them: those that were read one after another, and then those from there on.
+use Rattle.std.specs.Prelude.{Option, None, Some}
+use Rattle.format.specs.declared.Kind.{Kind}
 use Prim.Native.Nat.{ℕ, zero, suc, ◌≤◌, ◌<◌}
 use native.Mathlib.Omega.{arith}
 use mathlib.Core.Path.{◌≡◌, refl, ap, ◌∙◌}
@@ -9,8 +11,6 @@ use lib.ListN.{length}
 use lib.Dec.{eqb}
 use borrow.Author.Tests.{eqb-true}
 use Rattle.number.proofs.Clash.{clash}
-use Rattle.format.specs.declared.Known.{Known}
-use Rattle.format.specs.declared.Known.TheVariants.{Unknown, Is}
 use Rattle.format.specs.declared.Flaw.{Flaw}
 use Rattle.format.specs.Kinds.{known}
 use Rattle.format.specs.Parse.{got}
@@ -40,12 +40,12 @@ own_read zero s x r h = never h
 own_read (suc d) [] x r h = never h
 own_read (suc d) (b ∷ s) x r h = rw (kind_is b (b ∷ s) s) (go (writable b) (rw (kind_is b (b ∷ s) s) at h))
   where
-    go : (o : Known)
+    go : (o : Option Kind)
         → (next (kind_by (b ∷ s) o s) λ k r. next (frame_name (b ∷ s) (some []) r) λ n q. with_name n (frame_payload (read_frames d) (b ∷ s) (payload k) q))
         ≡ framed x r
         → (after none (kind_by (b ∷ s) o s) λ k r. after none (frame_name (b ∷ s) (some []) r) λ n q. some n) ≡ some x.0
-    go Unknown h = never h
-    go (Is k) h = next_got (frame_name (b ∷ s) (some []) s) _ h λ m q e j. next_got (frame_payload (read_frames d) (b ∷ s) (payload k) q) _ j λ t u i l.
+    go None h = never h
+    go (Some k) h = next_got (frame_name (b ∷ s) (some []) s) _ h λ m q e j. next_got (frame_payload (read_frames d) (b ∷ s) (payload k) q) _ j λ t u i l.
         let z : x ≡ (m, t) = cc in
         rw (e, z)
 

@@ -1,16 +1,16 @@
 -- Frames of an object that were read one after another: in the part that ends behind them stand their names, in order; and in the part that ends with the name
 -- of the next frame that name too, the last.
+use Rattle.std.specs.Prelude.{Option, None, Some, Err}
+use Rattle.format.specs.declared.Kind.{Kind}
 use Prim.Native.Nat.{ℕ, zero, suc, ◌+◌, ◌-◌, ◌≤◌, ◌<◌}
 use native.Mathlib.Omega.{arith}
 use mathlib.Core.Path.{◌≡◌, refl, sym, ap, ◌∙◌}
 use mathlib.Core.Bool.{Bool, true, false, cond}
-use mathlib.Core.Option.{Option, none, some}
+use mathlib.Core.Option.{Option as Optional, none, some}
 use mathlib.Core.List.{List, [], ◌∷◌, ◌++◌, append_assoc, map}
 use lib.ListN.{length, take, drop, length-append, length-drop}
 use lib.Seq.{take_at, drop-drop}
 use Rattle.number.proofs.Clash.{clash}
-use Rattle.format.specs.declared.Known.{Known}
-use Rattle.format.specs.declared.Known.TheVariants.{Unknown, Is}
 use Rattle.format.specs.declared.Flaw.{Flaw}
 use Rattle.format.specs.declared.Flaw.TheVariants.{Blank, Long, NotUtf8}
 use Rattle.format.specs.Mask.{has}
@@ -21,8 +21,9 @@ use Rattle.frames.specs.declared.Refusal.TheVariants.{BadFrame, EmptyName, NotTe
 use Rattle.frames.specs.FramePieces.{writable}
 use Rattle.frames.specs.WriteList.{framed, read_frames}
 use Rattle.front.specs.Between.{between}
-use Rattle.frame.specs.declared.Name.TheVariants as F
 use Rattle.frame.specs.Pieces as pieces
+use Rattle.frame.proofs.MadeLaws.{name_same}
+use Rattle.frame.specs.Made.{name_read}
 use Rattle.twins.specs.Own.{own_name}
 use Rattle.twins.specs.Walk.{onward}
 use Rattle.passing.specs.Pass.{pass_over}
@@ -46,9 +47,9 @@ name_stands zero s h = clash cc
 name_stands (suc d) [] h = clash cc
 name_stands (suc d) (b ∷ s) {n} {fs} {q} h = go (writable b) refl h
   where
-    go : (o : Known) → writable b ≡ o → name_known o s ≡ got n fs q → (w : List ℕ) × (b ∷ s ≡ w ++ q) × ((t : List ℕ) → name_of (suc d) (w ++ t) ≡ got n fs t)
-    go Unknown e h = clash cc
-    go (Is k) e h = let w = local_name s n fs q h in (b ∷ w.0, ap (λ t. b ∷ t) w.1, λ t. rw e (w.2 t))
+    go : (o : Option Kind) → writable b ≡ o → name_known o s ≡ got n fs q → (w : List ℕ) × (b ∷ s ≡ w ++ q) × ((t : List ℕ) → name_of (suc d) (w ++ t) ≡ got n fs t)
+    go None e h = clash cc
+    go (Some k) e h = let w = local_name s n fs q h in (b ∷ w.0, ap (λ t. b ∷ t) w.1, λ t. rw e (w.2 t))
 
 -- it is passed over: its name, and those behind it
 names_on : (d : ℕ) (s : List ℕ) {n : List ℕ} {fs : List Flaw} {q r : List ℕ} → name_of d s ≡ got n fs q → pass_over d true s ≡ some r
@@ -70,7 +71,7 @@ names_last d s {n} h = names_step d s ∙ rw h (ap (λ ns. n ∷ ns) (go (pass_o
     nothing [] r e = sym e
     nothing (b ∷ u) r e = clash cc
 
-    go : (o : Option (List ℕ)) → pass_over d true s ≡ o → onward [] o (frame_names d) ≡ []
+    go : (o : Optional (List ℕ)) → pass_over d true s ≡ o → onward [] o (frame_names d) ≡ []
     go none i = refl
     go (some r) i = let u = named_passed d s h i in rw (nothing u.0 r u.1) (names_nil d)
 
@@ -143,25 +144,25 @@ module _ (d : ℕ) (s : List ℕ) (at p : ℕ) (a : at ≤ p) (b : p ≤ length 
       rw z (w.2 y.0 ∙ ap (λ ns. names_of fs ++ ns) (names_last d y.0 k))
 
   -- whose name is right, and is found behind its kind
-  pub own_over : (n : List ℕ) → own_name d (drop p s) ≡ some n → (begin e : ℕ) → pieces.name_at s (p + 1) ≡ F.At begin e
+  pub own_over : (n : List ℕ) → own_name d (drop p s) ≡ some n → (begin e : ℕ) → pieces.name_at s (p + 1) ≡ name_read begin e
       → frame_names d (between at e s) ≡ names_of fs ++ (n ∷ [])
   unfolding pieces.name_at
   own_over n h begin e i =
       let w = own_name_law d (drop p s) n h in
       let x = named_parts d (drop p s) w.1.1 in
       let t : drop (p + 1) s ≡ x.1.0 = sym (drop-drop 1 p s) ∙ ap (drop 1) x.1.1 in
-      let j : pieces.name_by (length s) (got n w.0 w.1.0) ≡ F.At begin e = rw (t, x.1.2) at i in
+      let j : pieces.name_by (length s) (got n w.0 w.1.0) ≡ name_read begin e = rw (t, x.1.2) at i in
       let z : length s - length w.1.0 ≡ e = go (length s) w.0 w.1.0 j in
       rw (← z) (name_over w.1.1)
     where
-      go : (total : ℕ) (gs : List Flaw) (q : List ℕ) → pieces.name_by total (got n gs q) ≡ F.At begin e → total - length q ≡ e
+      go : (total : ℕ) (gs : List Flaw) (q : List ℕ) → pieces.name_by total (got n gs q) ≡ name_read begin e → total - length q ≡ e
       go total gs q h = by (has Long gs) (has Blank gs) (has NotUtf8 gs) h
         where
           by : (a b c : Bool)
-              → cond a (F.Refused BadFrame) (cond b (F.Refused EmptyName) (cond c (F.Refused NotText) (F.At (total - length q - length n) (total - length q))))
-              ≡ F.At begin e
+              → cond a (Err BadFrame) (cond b (Err EmptyName) (cond c (Err NotText) (name_read (total - length q - length n) (total - length q))))
+              ≡ name_read begin e
               → total - length q ≡ e
           by true b c h = clash cc
           by false true c h = clash cc
           by false false true h = clash cc
-          by false false false h = cc
+          by false false false h = (name_same h).1

@@ -1,17 +1,16 @@
 -- What is passed over stands at the front, and is passed over the same whatever stands behind it. A frame takes a byte at least, so no bound on how many
 -- there are matters once it is the length.
+use Rattle.std.specs.Prelude.{Option, None, Some}
 use Prim.Native.Nat.{ℕ, zero, suc, ◌≤◌, ◌<◌}
 use native.Mathlib.Omega.{arith}
 use mathlib.Core.Path.{◌≡◌, refl, sym, ap, ◌∙◌}
 use mathlib.Core.Bool.{Bool, true, false, cond}
-use mathlib.Core.Option.{Option, none, some}
+use mathlib.Core.Option.{Option as Optional, none, some}
 use mathlib.Core.List.{List, [], ◌∷◌, ◌++◌, append_assoc}
 use lib.ListN.{length, length-append}
 use lib.Dec.{eqb}
 use Rattle.number.proofs.Clash.{clash}
 use Rattle.format.specs.declared.Kind.{Kind}
-use Rattle.format.specs.declared.Known.{Known}
-use Rattle.format.specs.declared.Known.TheVariants.{Unknown, Is}
 use Rattle.format.specs.declared.Flaw.{Flaw}
 use Rattle.format.specs.declared.Flaw.TheVariants.{Blank}
 use Rattle.format.specs.Parse.{Out, fault, got, raise, make}
@@ -29,10 +28,10 @@ use Rattle.passing.specs.Pass.{pass_until, pass_payload, pass_known, pass_frame,
 pub unpassed : {X : Type 0} {r : List ℕ} → none ≡ some r → X
 unpassed h = clash cc
 
-pub same : {q r : List ℕ} → ◌≡◌ {A = Option (List ℕ)} (some q) (some r) → q ≡ r
+pub same : {q r : List ℕ} → ◌≡◌ {A = Optional (List ℕ)} (some q) (some r) → q ≡ r
 same h = cc
 
-pub onward_got : {X : Type 0} (o : Option (List ℕ)) (g : List ℕ → Option (List ℕ)) {r : List ℕ} → onward none o g ≡ some r
+pub onward_got : {X : Type 0} (o : Optional (List ℕ)) (g : List ℕ → Optional (List ℕ)) {r : List ℕ} → onward none o g ≡ some r
     → ((q : List ℕ) → o ≡ some q → g q ≡ some r → X) → X
 onward_got none g h c = unpassed h
 onward_got (some q) g h c = c q refl h
@@ -43,17 +42,17 @@ rest_got (got a fs q) h c = c a fs (ap (got a fs) (same h))
 
 -- ---- at the front
 
-abbrev pub Stands : (List ℕ → Option (List ℕ)) → List ℕ → List ℕ → Type 0
+abbrev pub Stands : (List ℕ → Optional (List ℕ)) → List ℕ → List ℕ → Type 0
 Stands p s r = (w : List ℕ) × (s ≡ w ++ r) × ((q : List ℕ) → p (w ++ q) ≡ some q)
 
 -- a byte at least
-abbrev pub Takes : (List ℕ → Option (List ℕ)) → Type 0
+abbrev pub Takes : (List ℕ → Optional (List ℕ)) → Type 0
 Takes p = (s r : List ℕ) → p s ≡ some r → (w : List ℕ) × (s ≡ w ++ r) × (1 ≤ length w) × ((q : List ℕ) → p (w ++ q) ≡ some q)
 
 pub stands_le : (s w r : List ℕ) → s ≡ w ++ r → length w ≤ length s
 stands_le s w r e = omega (arith, simp length-append at (ap length e))
 
-pub takes_less : (p : List ℕ → Option (List ℕ)) → Takes p → (s r : List ℕ) → p s ≡ some r → length r < length s
+pub takes_less : (p : List ℕ → Optional (List ℕ)) → Takes p → (s r : List ℕ) → p s ≡ some r → length r < length s
 takes_less p loc s r h = let w = loc s r h in omega (arith, w.2, simp length-append at (ap length w.1))
 
 rest_stands : {A : Type 0} (f : List ℕ → Out A) → Local f → (s r : List ℕ) → rest_of (f s) ≡ some r → Stands (λ t. rest_of (f t)) s r
@@ -85,7 +84,7 @@ leaf_less k p e s r h = let w = leaf_stands k p e s r h in omega (arith, simp le
 
 -- ---- frames up to the close
 
-module _ (p : List ℕ → Option (List ℕ)) (loc : Takes p) where
+module _ (p : List ℕ → Optional (List ℕ)) (loc : Takes p) where
   abbrev UntilStands : List ℕ → List ℕ → Type 0
   UntilStands s r = (w : List ℕ) × (s ≡ w ++ r) × (1 ≤ length w) × ((k : ℕ) (q : List ℕ) → length w ≤ k → pass_until p k (w ++ q) ≡ some q)
 
@@ -119,10 +118,10 @@ module _ (p : List ℕ → Option (List ℕ)) (loc : Takes p) where
           let g = ih q r j in
           first f.0 g.0 q e f.1 f.2 f.3 g.1 g.3
 
-  onward_same : (s : List ℕ) (f g : List ℕ → Option (List ℕ)) → ((r : List ℕ) → length r < length s → f r ≡ g r) → onward none (p s) f ≡ onward none (p s) g
+  onward_same : (s : List ℕ) (f g : List ℕ → Optional (List ℕ)) → ((r : List ℕ) → length r < length s → f r ≡ g r) → onward none (p s) f ≡ onward none (p s) g
   onward_same s f g e = go (p s) refl
     where
-      go : (o : Option (List ℕ)) → p s ≡ o → onward none o f ≡ onward none o g
+      go : (o : Optional (List ℕ)) → p s ≡ o → onward none o f ≡ onward none o g
       go none i = refl
       go (some r) i = e r (takes_less p loc s r i)
 
@@ -142,7 +141,7 @@ module _ (p : List ℕ → Option (List ℕ)) (loc : Takes p) where
 
 -- ---- a frame
 
-module _ (p : Bool → List ℕ → Option (List ℕ)) (loc : (named : Bool) → Takes (p named)) where
+module _ (p : Bool → List ℕ → Optional (List ℕ)) (loc : (named : Bool) → Takes (p named)) where
   contents_stands : (named : Bool) (s r : List ℕ) → pass_until (p named) (length s) s ≡ some r → Stands (λ t. pass_until (p named) (length t) t) s r
   contents_stands named s r h =
       let w = until_stands (p named) (loc named) (length s) s r h in
@@ -159,10 +158,10 @@ module _ (p : Bool → List ℕ → Option (List ℕ)) (loc : (named : Bool) →
   frame_takes named [] r h = unpassed h
   frame_takes named (b ∷ s) r h = go (writable b) refl h
     where
-      go : (o : Known) → writable b ≡ o → pass_known p named o s ≡ some r
+      go : (o : Option Kind) → writable b ≡ o → pass_known p named o s ≡ some r
           → (w : List ℕ) × (b ∷ s ≡ w ++ r) × (1 ≤ length w) × ((q : List ℕ) → pass_frame p named (w ++ q) ≡ some q)
-      go Unknown e h = unpassed h
-      go (Is k) e h = onward_got (name_rest named s) _ h λ q i j.
+      go None e h = unpassed h
+      go (Some k) e h = onward_got (name_rest named s) _ h λ q i j.
           let v = name_stands named s q i in
           let u = payload_stands k (payload k) refl q r j in (
             b ∷ (v.0 ++ u.0),

@@ -1,23 +1,21 @@
 -- The names of the frames of an object that stand in a part one after another, and where each stands. What is inside a frame is passed over.
-use Rattle.std.specs.Prelude.{ℕ, zero, suc, ◌-◌, true, List, [], ◌∷◌, length, drop}
-use Rattle.std.proofs.Math.Option.{Option}
-use Rattle.format.specs.declared.Known.{Known}
-use Rattle.format.specs.declared.Known.TheVariants.{Is}
-use Rattle.format.specs.declared.Known.TheVariants as K
+use Rattle.std.specs.Prelude.{ℕ, zero, suc, ◌-◌, true, List, [], ◌∷◌, length, drop, Option, None, Some}
+use Rattle.std.proofs.Math.Option.{Option as Optional}
+use Rattle.format.specs.declared.Kind.{Kind}
 use Rattle.format.specs.declared.Stop.TheVariants.{Early, Unknown, TooDeep}
 use Rattle.format.specs.Parse.{Out, fault, got}
 use Rattle.format.specs.Names.{read_name}
 use Rattle.frames.specs.FramePieces.{writable}
 use Rattle.twins.specs.Walk.{onward}
-use Rattle.names.specs.declared.Name.{Name}
-use Rattle.names.specs.declared.Name.TheVariants as N
 use Rattle.passing.specs.Pass.{pass_over}
+use Rattle.names.specs.declared.Name.{Name}
+use Rattle.names.specs.Made.{name_met}
 
 -- ---- one frame
 
-abbrev pub name_known : Known → List ℕ → Out (List ℕ)
-name_known K.Unknown s = fault Unknown
-name_known (Is k) s = read_name s
+abbrev pub name_known : Option Kind → List ℕ → Out (List ℕ)
+name_known None s = fault Unknown
+name_known (Some k) s = read_name s
 
 -- the name of the frame at s, with d levels left, if its kind is writable and its name can be read
 unfoldable pub name_of : ℕ → List ℕ → Out (List ℕ)
@@ -28,7 +26,7 @@ name_of (suc d) (b ∷ s) = name_known (writable b) s
 -- ---- all of them
 
 -- a frame that cannot be passed over is the last
-abbrev pub names_from : Out (List ℕ) → Option (List ℕ) → (List ℕ → List (List ℕ)) → List (List ℕ)
+abbrev pub names_from : Out (List ℕ) → Optional (List ℕ) → (List ℕ → List (List ℕ)) → List (List ℕ)
 names_from (fault k) o more = []
 names_from (got n fs q) o more = n ∷ onward [] o more
 
@@ -43,10 +41,10 @@ frame_names d s = names_until d (length s) s
 -- ---- where they stand
 
 -- in a part of `total` bytes: where the name begins and ends, and where the next frame stands, or the part's end
-abbrev pub name_in : ℕ → Out (List ℕ) → Option (List ℕ) → Name
-name_in total (fault k) o = N.Nothing
-name_in total (got n fs q) o = N.At (total - length q - length n) (total - length q) (onward total o λ r. total - length r)
+abbrev pub name_in : ℕ → Out (List ℕ) → Optional (List ℕ) → Option Name
+name_in total (fault k) o = None
+name_in total (got n fs q) o = name_met (total - length q - length n) (total - length q) (onward total o λ r. total - length r)
 
 -- the name of the frame at a position
-unfoldable pub name_at : ℕ → ℕ → List ℕ → Name
+unfoldable pub name_at : ℕ → ℕ → List ℕ → Option Name
 name_at d a s = name_in (length s) (name_of d (drop a s)) (pass_over d true (drop a s))

@@ -1,6 +1,7 @@
 #![tactic(auto)]
 // The calls on places, in numbers: 0, where the lent numbers then start with what is asked for; the number of the fault met; or 3 for no more, 5 for not
 // there, 6 for a wrong kind; 12, before all else, for too few numbers lent. After any but 0 the lent numbers are as before.
+// C lends a place as its four numbers and the last one as two, so the calls take these and no struct.
 ghost use Rattle.std.specs.Prelude.{◌≡◌};
 ghost use Rattle.places.specs.Places.{checked, top, step, part, lookup};
 ghost use Rattle.replies.specs.Number.{afterwards};

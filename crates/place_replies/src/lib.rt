@@ -1,107 +1,83 @@
 #![tactic(auto)]
 // What the calls for C and Rust are handed and answer of places, in numbers: a place as its four numbers, and an answer as the number of its case,
 // where the lent numbers then start with the case's values.
-ghost use Rattle.std.specs.Prelude.{◌≡◌, ◌≤◌, length};
-ghost use Rattle.std.proofs.lemmas.List.Edits.{sets};
+ghost use Rattle.std.specs.Prelude.{◌≡◌};
 ghost use Rattle.replies.specs.Number.{afterwards};
 ghost use Rattle.replies.specs.Reply.{told};
 ghost use Rattle.place_replies.specs.PlaceReply.{place_numbers, after_of, checked_reply, top_reply, step_reply, part_reply, found_reply};
 
-use places::{After, Checked, Found, Part, Place, Step, Top};
+use format::Stop;
+use places::{Field, Part, Place, PlaceError};
 
 // Of the last place only the end counts.
-pub fn after_of(some: u32, last: usize) -> After
+#[tactic(auto, using(crate::proofs::AfterLaws::after_laws))]
+pub fn after_of(some: u32, last: usize) -> Option<Place>
     ensures { result ≡ after_of some last }
 {
     if some == 0 {
-        return After::Start;
+        return None;
     }
-    After::Last(Place::of(0, 0, last, 0))
+    Some(Place::of(0, 0, last, 0))
 }
 
-fn store_place(place: Place, held: &mut [u64])
-    requires { 4 ≤ length held.old }
-    ensures { held.new ≡ sets held.old 0 (place_numbers place) }
+fn numbers_of(place: Place) -> [u64; 4]
+    ensures { result ≡ place_numbers place }
 {
-    held[0] = place.kind as u64;
-    held[1] = place.start as u64;
-    held[2] = place.end as u64;
-    held[3] = place.depth as u64;
+    [
+        place.kind as u64,
+        place.start as u64,
+        place.end as u64,
+        place.depth as u64,
+    ]
 }
 
-pub fn checked(answer: Checked) -> u32
+pub fn checked(answer: Result<(), Stop>) -> u32
     ensures { result ≡ (checked_reply answer).code }
 {
     match answer {
-        Checked::Good => 0,
-        Checked::Fault(stop) => format::stop_value(stop),
+        Ok(()) => 0,
+        Err(stop) => format::stop_value(stop),
     }
 }
 
-pub fn top(answer: Top, held: &mut [u64]) -> u32
+pub fn top(answer: Result<Place, Stop>, held: &mut [u64]) -> u32
     ensures { afterwards result held.new ≡ told 4 (top_reply answer) held.old }
 {
-    if held.len() < 4 {
-        return replies::TOO_FEW;
-    }
     match answer {
-        Top::At(place) => {
-            store_place(place, held);
-            0
-        }
-        Top::Fault(stop) => format::stop_value(stop),
+        Ok(place) => replies::told(Ok(numbers_of(place)), held),
+        Err(stop) => replies::told::<4>(Err(format::stop_value(stop)), held),
     }
 }
 
 // A field is told by its place and where its name begins.
-pub fn step(answer: Step, held: &mut [u64]) -> u32
+pub fn step(answer: Result<Option<Field>, PlaceError>, held: &mut [u64]) -> u32
     ensures { afterwards result held.new ≡ told 5 (step_reply answer) held.old }
 {
-    let few = held.len() < 5;
-    if few {
-        return replies::TOO_FEW;
-    }
     match answer {
-        Step::Field(place, name) => {
-            store_place(place, held);
-            held[4] = name as u64;
-            0
+        Ok(Some(field)) => {
+            let [kind, start, end, depth] = numbers_of(field.place);
+            replies::told(Ok([kind, start, end, depth, field.name as u64]), held)
         }
-        Step::NoMore => replies::NO_MORE,
-        Step::WrongKind => replies::WRONG_KIND,
-        Step::Fault(stop) => format::stop_value(stop),
+        Ok(None) => replies::told::<5>(Err(replies::NO_MORE), held),
+        Err(error) => replies::told::<5>(Err(replies::place_code(error)), held),
     }
 }
 
-pub fn part(answer: Part, held: &mut [u64]) -> u32
+pub fn part(answer: Result<Part, Stop>, held: &mut [u64]) -> u32
     ensures { afterwards result held.new ≡ told 2 (part_reply answer) held.old }
 {
-    if held.len() < 2 {
-        return replies::TOO_FEW;
-    }
     match answer {
-        Part::At(from, to) => {
-            held[0] = from as u64;
-            held[1] = to as u64;
-            0
-        }
-        Part::Fault(stop) => format::stop_value(stop),
+        Ok(part) => replies::told(Ok([part.begin as u64, part.end as u64]), held),
+        Err(stop) => replies::told::<2>(Err(format::stop_value(stop)), held),
     }
 }
 
-pub fn found(answer: Found, held: &mut [u64]) -> u32
+pub fn found(answer: Result<Option<Place>, PlaceError>, held: &mut [u64]) -> u32
     ensures { afterwards result held.new ≡ told 4 (found_reply answer) held.old }
 {
-    if held.len() < 4 {
-        return replies::TOO_FEW;
-    }
     match answer {
-        Found::At(place) => {
-            store_place(place, held);
-            0
-        }
-        Found::NotThere => replies::NOT_THERE,
-        Found::WrongKind => replies::WRONG_KIND,
-        Found::Fault(stop) => format::stop_value(stop),
+        Ok(Some(place)) => replies::told(Ok(numbers_of(place)), held),
+        Ok(None) => replies::told::<4>(Err(replies::NOT_THERE), held),
+        Err(error) => replies::told::<4>(Err(replies::place_code(error)), held),
     }
 }

@@ -1,4 +1,5 @@
 -- The numbers that bound how often something is done in the definitions are large enough: larger ones change nothing.
+use Rattle.std.specs.Prelude.{Option, Some, None, Ok, Result, Err}
 use Prim.Native.Nat.{ℕ, zero, suc, ◌+◌, ◌≤◌, ◌<◌}
 use native.Mathlib.Omega.{arith}
 use mathlib.Core.Path.{◌≡◌, refl, sym, ap, ◌∙◌}
@@ -11,12 +12,6 @@ use Rattle.format.specs.declared.Kind.{Kind}
 use Rattle.format.specs.declared.Form.{Form}
 use Rattle.format.specs.declared.Form.TheVariants as Fo
 use Rattle.places.specs.declared.Place.{Place}
-use Rattle.places.specs.declared.After.{After}
-use Rattle.places.specs.declared.After.TheVariants.{Start, Last}
-use Rattle.places.specs.declared.Step.{Step}
-use Rattle.places.specs.declared.Step.TheVariants.{Field, NoMore, WrongKind, Fault}
-use Rattle.places.specs.declared.Found.{Found}
-use Rattle.places.specs.declared.Found.TheVariants as F
 use Rattle.format.specs.Parse.{Out, got, bind, fill}
 use Rattle.format.specs.Payload.{front, head}
 use Rattle.format.specs.Reader.{contents, read_node, read}
@@ -29,6 +24,10 @@ use Rattle.format.proofs.HeadParts.{Full}
 use Rattle.head.proofs.MeetingLaws.{bind_same}
 use Rattle.places.proofs.FieldBytes.{Takes, field_takes}
 use Rattle.places.proofs.StepFields.{behind, step_onward}
+use Rattle.places.specs.declared.PlaceError.TheVariants.{WrongKind, Fault}
+use Rattle.places.specs.declared.Field.{Field}
+use Rattle.places.specs.declared.PlaceError.{PlaceError}
+use Rattle.places.specs.Made.{step_met}
 
 -- ---- fields that fill a part: a reader that uses up a byte at least where it reads
 
@@ -66,52 +65,55 @@ shared_fields_enough d k = fill_enough (read d (Fo.SharedField k)) (read_takes d
 
 -- ---- steps: what is made of them, `go`, goes on behind a field only
 
-module _ {X : Type 0} (s : List ℕ) (c : Place) (at : (Place → X) → Step → X) (go : ℕ → After → X)
-    (turn : (n : ℕ) (l : After) → go (suc n) l ≡ at (λ q. go n (Last q)) (step s c l))
-    (only : (f g : Place → X) (x : Step) → ((q : Place) (n : ℕ) → x ≡ Field q n → f q ≡ g q) → at f x ≡ at g x) where
-  steps_more : (m n : ℕ) (l : After) → behind l ≤ c.end → c.end < m + behind l → c.end < n + behind l → go n l ≡ go m l
+module _ {X : Type 0} (s : List ℕ) (c : Place) (at : (Place → X) → Result (Option Field) PlaceError → X) (go : ℕ → Option Place → X)
+    (turn : (n : ℕ) (l : Option Place) → go (suc n) l ≡ at (λ q. go n (Some q)) (step s c l))
+    (only : (f g : Place → X) (x : Result (Option Field) PlaceError) → ((q : Place) (n : ℕ) → x ≡ step_met q n → f q ≡ g q) → at f x ≡ at g x) where
+  steps_more : (m n : ℕ) (l : Option Place) → behind l ≤ c.end → c.end < m + behind l → c.end < n + behind l → go n l ≡ go m l
   steps_more zero n l h k o = absurd (omega arith)
   steps_more (suc m) zero l h k o = absurd (omega arith)
   steps_more (suc m) (suc n) l h k o =
       turn n l
-      ∙ only (λ q. go n (Last q)) (λ q. go m (Last q)) (step s c l) (λ q a e.
+      ∙ only (λ q. go n (Some q)) (λ q. go m (Some q)) (step s c l) (λ q a e.
       let i = step_onward s c l q a e in
-      steps_more m n (Last q) i.within (omega (arith, i.further)) (omega (arith, i.further)))
+      steps_more m n (Some q) i.within (omega (arith, i.further)) (omega (arith, i.further)))
       ∙ sym (turn m l)
 
-  steps_enough : (n : ℕ) → c.end < n → go n Start ≡ go (suc c.end) Start
-  steps_enough n h = steps_more (suc c.end) n Start (omega arith) (omega arith) (omega arith)
+  steps_enough : (n : ℕ) → c.end < n → go n None ≡ go (suc c.end) None
+  steps_enough n h = steps_more (suc c.end) n None (omega arith) (omega arith) (omega arith)
 
 module _ (s : List ℕ) (c : Place) where
-  pub look_enough : (name : List ℕ) (n : ℕ) → c.end < n → look_from n s c name Start ≡ look_from (suc c.end) s c name Start
+  pub look_enough : (name : List ℕ) (n : ℕ) → c.end < n → look_from n s c name None ≡ look_from (suc c.end) s c name None
   look_enough name = steps_enough s c (look_at s name) (λ n l. look_from n s c name l) (λ n l. refl) only
     where
-      by : (f g : Place → Found) (p : Place) (b : Bool) → f p ≡ g p
-          → ◌≡◌ {A = Found} (elim b [ true ↦ F.At p | false ↦ f p ]) (elim b [ true ↦ F.At p | false ↦ g p ])
+      by : (f g : Place → Result (Option Place) PlaceError) (p : Place) (b : Bool) → f p ≡ g p
+          → ◌≡◌ {A = Result (Option Place) PlaceError} (elim b [ true ↦ Ok (Some p) | false ↦ f p ]) (elim b [ true ↦ Ok (Some p) | false ↦ g p ])
       by f g p true e = refl
       by f g p false e = e
 
-      only : (f g : Place → Found) (x : Step) → ((q : Place) (n : ℕ) → x ≡ Field q n → f q ≡ g q) → look_at s name f x ≡ look_at s name g x
-      only f g (Field p n) e = by f g p (equal (slice n p.start s) name) (e p n refl)
-      only f g NoMore e = refl
-      only f g WrongKind e = refl
-      only f g (Fault k) e = refl
+      only : (f g : Place → Result (Option Place) PlaceError) (x : Result (Option Field) PlaceError) → ((q : Place) (n : ℕ) → x ≡ step_met q n → f q ≡ g q)
+          → look_at s name f x ≡ look_at s name g x
+      only f g (Ok (Some v)) e = by f g v.place (equal (slice v.name v.place.start s) name) (e v.place v.name refl)
+      only f g (Ok None) e = refl
+      only f g (Err WrongKind) e = refl
+      only f g (Err (Fault k)) e = refl
 
-  pub steps_from_enough : (below : Place → List Event) (n : ℕ) → c.end < n → steps_from below n s c Start ≡ steps_from below (suc c.end) s c Start
+  pub steps_from_enough : (below : Place → List Event) (n : ℕ) → c.end < n → steps_from below n s c None ≡ steps_from below (suc c.end) s c None
   steps_from_enough below = steps_enough s c (events_at s below) (λ n l. steps_from below n s c l) (λ n l. refl) only
     where
-      only : (f g : Place → List Event) (x : Step) → ((q : Place) (n : ℕ) → x ≡ Field q n → f q ≡ g q) → events_at s below f x ≡ events_at s below g x
-      only f g (Field p n) e = rw (e p n refl)
-      only f g NoMore e = refl
-      only f g WrongKind e = refl
-      only f g (Fault k) e = refl
+      only : (f g : Place → List Event) (x : Result (Option Field) PlaceError) → ((q : Place) (n : ℕ) → x ≡ step_met q n → f q ≡ g q)
+          → events_at s below f x ≡ events_at s below g x
+      only f g (Ok (Some v)) e = rw (e v.place v.name refl)
+      only f g (Ok None) e = refl
+      only f g (Err WrongKind) e = refl
+      only f g (Err (Fault k)) e = refl
 
-  pub places_enough : (n : ℕ) → c.end < n → places_from n s c Start ≡ places_in s c
+  pub places_enough : (n : ℕ) → c.end < n → places_from n s c None ≡ places_in s c
   unfolding places_in
   places_enough = steps_enough s c places_at (λ n l. places_from n s c l) (λ n l. refl) only
     where
-      only : (f g : Place → List Place) (x : Step) → ((q : Place) (n : ℕ) → x ≡ Field q n → f q ≡ g q) → places_at f x ≡ places_at g x
-      only f g (Field p n) e = ap (λ ps. p ∷ ps) (e p n refl)
-      only f g NoMore e = refl
-      only f g WrongKind e = refl
-      only f g (Fault k) e = refl
+      only : (f g : Place → List Place) (x : Result (Option Field) PlaceError) → ((q : Place) (n : ℕ) → x ≡ step_met q n → f q ≡ g q)
+          → places_at f x ≡ places_at g x
+      only f g (Ok (Some v)) e = ap (λ ps. v.place ∷ ps) (e v.place v.name refl)
+      only f g (Ok None) e = refl
+      only f g (Err WrongKind) e = refl
+      only f g (Err (Fault k)) e = refl

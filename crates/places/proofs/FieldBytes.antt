@@ -1,4 +1,5 @@
 -- What the bytes of a field are: before its name, by how it stands; a size and what it counts; and that a field takes a byte at least.
+use Rattle.std.specs.Prelude.{Option, None, Some}
 use Prim.Native.Nat.{ℕ, ◌^◌, ◌<◌}
 use native.Mathlib.Omega.{arith}
 use mathlib.Core.Path.{◌≡◌, refl, sym, ap, ◌∙◌, subst}
@@ -19,8 +20,6 @@ use Rattle.format.specs.declared.Kind.{Kind}
 use Rattle.format.specs.declared.Kind.TheVariants.{Null, Object, UniformObject, Array, UniformArray, Binary, String, IntegerPositive, IntegerNegative}
 use Rattle.format.specs.declared.Kind.TheVariants.{Float32, Float64, False, True, ObjectAttachment, BinaryAttachment, Hash, Uuid, DateTime, TimeSpan}
 use Rattle.format.specs.declared.Kind.TheVariants.{ObjectId, CustomById, CustomByName}
-use Rattle.format.specs.declared.Known.{Known}
-use Rattle.format.specs.declared.Known.TheVariants.{Unknown, Is}
 use Rattle.format.specs.declared.Mark.{Mark}
 use Rattle.format.specs.declared.Mark.TheVariants.{OfTop, OfField, OfItem}
 use Rattle.format.specs.declared.Form.{Form}
@@ -92,9 +91,9 @@ type_read : (m : Mark) (s : List ℕ) {k : Kind} {fs : List Flaw} {q : List ℕ}
 type_read m [] h = never h
 type_read m (b ∷ s) {k} {fs} {q} h = go (kind_at m b) refl h
   where
-    go : (o : Known) → kind_at m b ≡ o → kind_found o s ≡ got k fs q → b ∷ s ≡ type_byte m k ∷ q
-    go Unknown e h = never h
-    go (Is l) e h =
+    go : (o : Option Kind) → kind_at m b ≡ o → kind_found o s ≡ got k fs q → b ∷ s ≡ type_byte m k ∷ q
+    go None e h = never h
+    go (Some l) e h =
         let z : l ≡ k = cc in
         let y : s ≡ q = cc in
         rw (← z, kind_inv m b l e, y)

@@ -1,4 +1,5 @@
 -- What a leaf's place shows: its kind and its view tell its value, and so do the value calls.
+use Rattle.std.specs.Prelude.{Some}
 use Prim.Native.Nat.{ℕ, suc, ◌^◌}
 use native.Mathlib.Omega.{arith}
 use mathlib.Core.Path.{◌≡◌, refl, sym, ap, ◌∙◌}
@@ -18,7 +19,6 @@ use Rattle.format.specs.declared.Kind.{Kind}
 use Rattle.format.specs.declared.Kind.TheVariants.{Null, Object, UniformObject, Array, UniformArray, Binary, String, IntegerPositive, IntegerNegative}
 use Rattle.format.specs.declared.Kind.TheVariants.{Float32, Float64, False, True, ObjectAttachment, BinaryAttachment, Hash, Uuid, DateTime, TimeSpan}
 use Rattle.format.specs.declared.Kind.TheVariants.{ObjectId, CustomById, CustomByName}
-use Rattle.format.specs.declared.Known.TheVariants.{Is}
 use Rattle.places.specs.declared.Place.{Place}
 use Rattle.format.specs.Kinds.{has_size}
 use Rattle.format.specs.declared.Flaw.{Flaw}
@@ -41,7 +41,7 @@ use Rattle.number.proofs.Clash.{clash}
 
 -- what is left of the payload s behind its size, if it has one
 abbrev pub behind_size : Kind → List ℕ → List ℕ
-behind_size k s = drop (size_length (Is k) s) s
+behind_size k s = drop (size_length (Some k) s) s
 
 value_got : {X : Type 0} (o : Out Leaf) {v : Leaf} {fs : List Flaw} → make value o ≡ got (value v) fs [] → ((es : List Flaw) → o ≡ got v es [] → X) → X
 value_got {X} o {v} e c = bind_got o (λ u q. got (value u) [] q) e λ u es q gs i j _.

@@ -2,9 +2,9 @@
 use Prim.Native.Nat.{ℕ}
 use mathlib.Core.List.{List}
 use Rattle.number.proofs.OneAnswer.{One, one}
-use Rattle.head.specs.declared.Met.{Met}
 use Rattle.places.specs.Places.{place_with, top}
 use Rattle.places.specs.Placed.{placed}
+use Rattle.head.specs.declared.Met.{Met}
 
 module _ (payload : List ℕ) where
   -- not: one at depth 0; one that answers a fault for every payload

@@ -1,5 +1,6 @@
 -- A place that passes its check: where it lies, and the kind whose payload it is.
-use Prim.Native.Nat.{ℕ, ◌+◌, ◌≤◌}
+use Rattle.std.specs.Prelude.{Some, Option, None}
+use Prim.Native.Nat.{ℕ, ◌≤◌}
 use native.Mathlib.Omega.{arith}
 use mathlib.Core.Path.{◌≡◌, refl, sym, ap, ◌∙◌}
 use mathlib.Core.Bool.{Bool, true, false, ◌||◌, cond}
@@ -9,8 +10,6 @@ use lib.Seq.{slice, take-take, length-take-le}
 use lib.Dec.{eqb, ltb}
 use borrow.Author.Tests.{le-ltb, ltb-false, ne_eqb}
 use Rattle.format.specs.declared.Kind.{Kind}
-use Rattle.format.specs.declared.Known.{Known}
-use Rattle.format.specs.declared.Known.TheVariants.{Unknown, Is}
 use Rattle.format.specs.declared.Stop.TheVariants.{Early, TooDeep, TooLong}
 use Rattle.places.specs.declared.Place.{Place}
 use Rattle.format.specs.Limits.{depth_limit, length_limit}
@@ -31,7 +30,7 @@ pub record Passed (s : List ℕ) (p : Place) (h : Head) (fs : List Flaw) : Type 
   pub order : p.start ≤ p.end
   pub inside : p.end ≤ length s
   pub kind : Kind
-  pub is_known : known p.kind ≡ Is kind
+  pub is_known : known p.kind ≡ Some kind
   pub coded : p.kind ≡ id kind
   pub header : head kind (slice p.start p.end s) ≡ got h fs []
 
@@ -42,15 +41,15 @@ check_passed s p {h} {fs} {r} e =
     (eqb p.depth 0 || ltb depth_limit p.depth) (known p.kind) refl e
   where
     at : (b₁ : Bool) → ltb length_limit (length s) ≡ b₁ → (b₂ : Bool) → ltb p.end p.start ≡ b₂ → (b₃ : Bool) → ltb (length s) p.end ≡ b₃
-        → (b₄ : Bool) (w : Known) → known p.kind ≡ w
+        → (b₄ : Bool) (w : Option Kind) → known p.kind ≡ w
         → cond b₁ (fault TooLong) (cond (b₂ || b₃) (fault Early) (cond b₄ (fault TooDeep) (payload_at w (slice p.start p.end s)))) ≡ got h fs r
         → Passed s p h fs
     at true e₁ b₂ e₂ b₃ e₃ b₄ w i e = never e
     at false e₁ true e₂ b₃ e₃ b₄ w i e = never e
     at false e₁ false e₂ true e₃ b₄ w i e = never e
     at false e₁ false e₂ false e₃ true w i e = never e
-    at false e₁ false e₂ false e₃ false Unknown i e = never e
-    at false e₁ false e₂ false e₃ false (Is k) i e = whole_got (head k (slice p.start p.end s)) [] e λ j _. record {
+    at false e₁ false e₂ false e₃ false None i e = never e
+    at false e₁ false e₂ false e₃ false (Some k) i e = whole_got (head k (slice p.start p.end s)) [] e λ j _. record {
       short = ltb-false length_limit (length s) e₁;
       order = ltb-false p.end p.start e₂;
       inside = ltb-false (length s) p.end e₃;

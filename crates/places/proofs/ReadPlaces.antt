@@ -1,5 +1,6 @@
 -- A place at which the reader read a field: its check finds the head that was read, and its view is the payload behind its size; and a step meets the field
 -- at such a place.
+use Rattle.std.specs.Prelude.{Some}
 use Prim.Native.Nat.{ℕ, ◌+◌, ◌-◌, ◌≤◌, ◌<◌}
 use native.Mathlib.Omega.{arith}
 use mathlib.Core.Path.{◌≡◌, refl, sym, ap, ◌∙◌, subst}
@@ -12,7 +13,6 @@ use Rattle.number.specs.VarUInt.{var_uint}
 use Rattle.number.proofs.NumberThenLaws.{number_all}
 use Rattle.number.proofs.VarUIntLaws.{var_range}
 use Rattle.format.specs.declared.Kind.{Kind}
-use Rattle.format.specs.declared.Known.TheVariants.{Is}
 use Rattle.format.specs.declared.Form.{Form}
 use Rattle.places.specs.declared.Place.{Place}
 use Rattle.format.specs.Limits.{depth_limit, length_limit}
@@ -47,7 +47,7 @@ pub record ReadAt (d : ℕ) (s : List ℕ) (c : Place) (x : Standing (Node (Stan
   pub header : head x.0 bytes ≡ got above above_flaws []
   pub body : contents (read d) above ≡ got x.1 body_flaws []
 
-pub size_le : (k : Kind) (b : List ℕ) → size_length (Is k) b ≤ length b
+pub size_le : (k : Kind) (b : List ℕ) → size_length (Some k) b ≤ length b
 size_le k b = go (has_size k)
   where
     go : (x : Bool) → cond x (taken (var_uint b)) 0 ≤ length b
@@ -74,7 +74,7 @@ module _ {d : ℕ} {s : List ℕ} {c : Place} {x : Standing (Node (Standing (Lay
   pub viewed : view s c ≡ behind_size x.0 i.bytes
   unfolding view part
   viewed =
-      let n = size_length (Is x.0) i.bytes in
+      let n = size_length (Some x.0) i.bytes in
       let l : length (take n i.bytes) ≡ n = length-take-le n i.bytes (size_le x.0 i.bytes) in
       let t : length (take n i.bytes) + length (drop n i.bytes) ≡ length i.bytes =
       sym (length-append (take n i.bytes) (drop n i.bytes)) ∙ ap length (take-append-drop n i.bytes) in

@@ -1,4 +1,5 @@
 -- The calls show what the reader reads, at every place, by levels; and so from the top place on.
+use Rattle.std.specs.Prelude.{Ok, Option, None}
 use Prim.Native.Nat.{ℕ, zero, suc, ◌+◌, ◌-◌, ◌≤◌}
 use native.Mathlib.Omega.{arith}
 use mathlib.Core.Path.{◌≡◌, refl, sym, ap, ◌∙◌, subst}
@@ -12,10 +13,6 @@ use Rattle.format.specs.declared.Kind.{Kind}
 use Rattle.format.specs.declared.Form.{Form}
 use Rattle.format.specs.declared.Form.TheVariants as Fo
 use Rattle.places.specs.declared.Place.{Place}
-use Rattle.places.specs.declared.After.{After}
-use Rattle.places.specs.declared.After.TheVariants.{Start}
-use Rattle.places.specs.declared.Checked.TheVariants as C
-use Rattle.places.specs.declared.Top.TheVariants as T
 use Rattle.format.specs.Limits.{depth_limit, length_limit}
 use Rattle.format.specs.Kinds.{is_uniform, is_uniform_array}
 use Rattle.format.specs.Names.{twins}
@@ -90,7 +87,7 @@ shown_node d s c x m rec i =
     go i.above x.1 i.body (found m i) (head_body x.0 i.bytes i.header) (head_contained x.0 i.bytes i.header) i.header
   where
     shown_fields : (f : Form) (b : List ℕ) (xs : List (Named (Standing (Layout d)))) (Counted : List Kind → Type 0)
-        → ((l : After) → step s c l ≡ step_in s c f (c.end - length b) (from (c.end - length b) l))
+        → ((l : Option Place) → step s c l ≡ step_in s c f (c.end - length b) (from (c.end - length b) l))
         → contents_start s c ≡ c.end - length b → Full f → Holds x.0 i.bytes f b [] Counted → Counted (kinds_in xs) → Answered other s c
         → Run (read d f) b xs → ShownFields (Shown d s) s x.0 c xs
     shown_fields f b xs Counted ok st full k n a run =
@@ -100,7 +97,7 @@ shown_node d s c x m rec i =
         let pb : Part s at b = part_to (part_right k.opening b (part_is i.there e)) (omega (arith, i.ends)) in
         let po : slice c.start at s ≡ k.opening = part_slice at k.opening (part_left k.opening b (part_is i.there e)) (omega (arith, i.ends)) in
         let lb : c.end - at ≡ length b = omega (arith, i.ends) in
-        let t = walk s c (payload x.0) f b full k.stands ok d rec Start at b xs i.levels run pb (omega (arith, i.ends)) (omega arith) refl in
+        let t = walk s c (payload x.0) f b full k.stands ok d rec None at b xs i.levels run pb (omega (arith, i.ends)) (omega arith) refl in
         record {
           places = t.0;
           contents = at;
@@ -141,14 +138,14 @@ shown_node d s c x m rec i =
         let z : object xs ≡ t = cc in
         let w = shown_fields f b xs (λ ks. Unit {0}) (λ l. rw ok) (fields_start s c f b i.above_flaws [] ok) o.1 k.1 tt
         (fields_answered s c i.above_flaws f b ok) (run_fill (read d f) (length b) b xs es q j) in
-        let few = walk_few (Shown d s) s c (payload x.0) w.contents Start w.places xs w.walk in
+        let few = walk_few (Shown d s) s c (payload x.0) w.contents None w.places xs w.walk in
         subst (ShownNode (Shown d s) s x.0 c) z (record {
           is_object = k.0;
           fields = w;
-          looked_up = λ m. rw ok (look (Shown d s) s c (payload x.0) m w.contents w.places xs (suc c.end) Start (omega arith) w.walk);
+          looked_up = λ m. rw ok (look (Shown d s) s c (payload x.0) m w.contents w.places xs (suc c.end) None (omega arith) w.walk);
         })
 
-no_fault : (d : ℕ) (s : List ℕ) (c : Place) (x : Standing (Node (Standing (Layout d)))) → length s ≤ length_limit → ReadAt d s c x → checked s c ≡ C.Good
+no_fault : (d : ℕ) (s : List ℕ) (c : Place) (x : Standing (Node (Standing (Layout d)))) → length s ≤ length_limit → ReadAt d s c x → checked s c ≡ Ok tt
 unfolding checked
 no_fault d s c x m i = rw (found m i)
 
@@ -159,7 +156,7 @@ shown (suc d) s c x m i = record { kind = i.coded; no_fault = no_fault d s c x m
 -- what is read from the top is shown from the top place on
 pub shown_top : (s : List ℕ) (x : Named (Standing (Layout depth_limit))) (fs : List Flaw) (r : List ℕ) → length s ≤ length_limit
     → read depth_limit Fo.Top s ≡ got x fs r
-    → (p : Place) × (top s ≡ T.At p) × (p.start ≡ 1) × (p.end + length r ≡ length s) × (p.depth ≡ 1) × Shown depth_limit s p x.1 × (x.0 ≡ [])
+    → (p : Place) × (top s ≡ Ok p) × (p.start ≡ 1) × (p.end + length r ≡ length s) × (p.depth ≡ 1) × Shown depth_limit s p x.1 × (x.0 ≡ [])
 unfolding read top meet
 shown_top s x fs r m h =
     let i = field_met 31 s 1 (length s) Fo.Top 0 s x fs r tt (part_all s) (omega arith) (omega arith) (omega arith) h in

@@ -5,7 +5,6 @@ use Prim.Native.Nat.{ℕ}
 use Rattle.number.specs.VarUInt.{var_uint}
 use Rattle.text.specs.Utf8.{is_text, due}
 use Rattle.places.specs.declared.Place.{Place}
-use Rattle.places.specs.declared.Part.TheVariants.{At}
 use Rattle.format.specs.Kinds.{known, is_bare, has_size}
 use Rattle.format.specs.Parse.{read_var_uint, fixed}
 use Rattle.format.specs.Names.{is_empty}
@@ -14,6 +13,7 @@ use Rattle.places.specs.Places.{place_with, check, meet, step, part, view}
 use Rattle.places.specs.Contents.{contents_start}
 use Rattle.places.specs.Stepping.{ranges}
 use Rattle.places.specs.Siblings.{places_in}
+use Rattle.places.specs.Made.{part_at}
 
 abbrev alice : List ℕ
 alice = 0x02 ∷ 0x12 ∷ 0xc7 ∷ 0x04 ∷ 0x6e ∷ 0x61 ∷ 0x6d ∷ 0x65 ∷ 0x05 ∷ 0x41 ∷ 0x6c ∷ 0x69 ∷ 0x63 ∷ 0x65 ∷ 0xc8 ∷ 0x03 ∷ 0x61 ∷ 0x67 ∷ 0x65 ∷ 0x1e ∷ []
@@ -36,7 +36,7 @@ numbers = 0x05 ∷ 0x05 ∷ 0x03 ∷ 0x08 ∷ 0x01 ∷ 0x02 ∷ 0x03 ∷ []
 abbrev numbers_top : Place
 numbers_top = place_with 0x05 1 7 1
 
-pub numbers_part : part numbers numbers_top ≡ At 2 7
+pub numbers_part : part numbers numbers_top ≡ part_at 2 7
 unfolding var_uint known is_bare has_size read_var_uint head payload check part
 numbers_part = refl
 

@@ -1,4 +1,5 @@
 -- The walk: stepping meets the fields that the reader reads, one after another; and lookup among them.
+use Rattle.std.specs.Prelude.{Option, Some, Ok, None, Result}
 use Prim.Native.Nat.{ℕ, zero, suc, ◌+◌, ◌-◌, ◌≤◌, ◌<◌}
 use native.Mathlib.Omega.{arith}
 use mathlib.Core.Path.{◌≡◌, refl, ap, ◌∙◌}
@@ -11,11 +12,7 @@ use Rattle.text.specs.Equal.{equal}
 use Rattle.format.specs.declared.Kind.{Kind}
 use Rattle.format.specs.declared.Form.{Form}
 use Rattle.places.specs.declared.Place.{Place}
-use Rattle.places.specs.declared.After.{After}
-use Rattle.places.specs.declared.After.TheVariants.{Last}
-use Rattle.places.specs.declared.Step.TheVariants.{Field, NoMore}
-use Rattle.places.specs.declared.Found.{Found}
-use Rattle.places.specs.declared.Found.TheVariants as F
+use Rattle.places.specs.declared.PlaceError.{PlaceError}
 use Rattle.format.specs.Limits.{depth_limit}
 use Rattle.format.specs.declared.Flaw.{Flaw}
 use Rattle.format.specs.Parse.{got}
@@ -23,6 +20,7 @@ use Rattle.format.specs.Payload.{Payload}
 use Rattle.format.specs.Reader.{Standing, Named, Layout, read}
 use Rattle.places.specs.Places.{met, meet, from, step_in, step, name_view, look_at, look_from}
 use Rattle.places.specs.Show.{Before, Walk, first_of, Shown}
+use Rattle.places.specs.Made.{step_met}
 use Rattle.format.proofs.Back.{never}
 use Rattle.format.proofs.HeadParts.{Full}
 use Rattle.places.proofs.Parts.{Part, part_slice}
@@ -39,14 +37,14 @@ Read (suc d) s c x = ReadAt d s c x
 -- ---- in a container whose contents b end where it ends
 
 module _ (s : List ℕ) (c : Place) (how : Payload) (f : Form) (b : List ℕ) (full : Full f) (turn : (j : Kind) (n w : List ℕ) → Stood f j n w → Before how j n w)
-    (ok : (l : After) → step s c l ≡ step_in s c f (c.end - length b) (from (c.end - length b) l)) where
-  step_ends : (l : After) → from (c.end - length b) l ≡ c.end → step s c l ≡ NoMore
+    (ok : (l : Option Place) → step s c l ≡ step_in s c f (c.end - length b) (from (c.end - length b) l)) where
+  step_ends : (l : Option Place) → from (c.end - length b) l ≡ c.end → step s c l ≡ Ok None
   step_ends l e = simp (ok l, e, le-ltb c.end (c.end - length b) (omega arith), le-ltb c.end c.end (omega arith), eq-eqb c.end c.end refl)
 
-  step_meets : (l : After) (at : ℕ) (r : List ℕ) (m : List ℕ) (q : Place) (n : ℕ) (fs : List Flaw) (u : List ℕ) → from (c.end - length b) l ≡ at
+  step_meets : (l : Option Place) (at : ℕ) (r : List ℕ) (m : List ℕ) (q : Place) (n : ℕ) (fs : List Flaw) (u : List ℕ) → from (c.end - length b) l ≡ at
       → c.end - length b ≤ at → at < c.end
       → slice at c.end s ≡ r → c.depth + 1 ≤ depth_limit → met (c.depth + 1) c.end f r ≡ got (m, q) fs u
-      → q.start - length m ≡ n → step s c l ≡ Field q n
+      → q.start - length m ≡ n → step s c l ≡ step_met q n
   unfolding meet
   step_meets l at r m q n fs u e h k i d g j =
       simp (
@@ -62,7 +60,7 @@ module _ (s : List ℕ) (c : Place) (how : Payload) (f : Form) (b : List ℕ) (f
       )
 
   pub walk : (d : ℕ) → ((p : Place) (y : Standing (Layout d)) → Read d s p y → Shown d s p y)
-      → (l : After) (at : ℕ) (r : List ℕ) (xs : List (Named (Standing (Layout d)))) → d + c.depth ≡ depth_limit
+      → (l : Option Place) (at : ℕ) (r : List ℕ) (xs : List (Named (Standing (Layout d)))) → d + c.depth ≡ depth_limit
       → Run (read d f) r xs → Part s at r → at + length r ≡ c.end → c.end - length b ≤ at → from (c.end - length b) l ≡ at
       → (ps : List Place) × Walk (Shown d s) s c how at l ps xs
   unfolding read name_view
@@ -75,7 +73,7 @@ module _ (s : List ℕ) (c : Place) (how : Payload) (f : Form) (b : List ℕ) (f
       let i = field_met d s (c.depth + 1) c.end f at r x run.0 run.1 full pr el (omega arith) (omega arith) run.2 in
       let t = step_meets l at r x.0 i.place i.name_start i.flaws run.1 e h (omega (arith, i.left, i.some_byte)) (part_slice c.end r pr el)
       (omega arith) i.meets i.name_is in
-      let j = walk (suc d) rec (Last i.place) i.place.end run.1 xs dl run.3 i.after i.left (omega (arith, i.some_byte)) refl in (
+      let j = walk (suc d) rec (Some i.place) i.place.end run.1 xs dl run.3 i.after i.left (omega (arith, i.some_byte)) refl in (
         i.place ∷ j.0,
         (
           record {
@@ -99,13 +97,13 @@ module _ (s : List ℕ) (c : Place) (how : Payload) (f : Form) (b : List ℕ) (f
 -- ---- lookup
 
 module _ {A : Type 0} (P : Place → Standing A → Type 0) (s : List ℕ) (c : Place) (how : Payload) where
-  pub walk_few : (a : ℕ) (l : After) (ps : List Place) (xs : List (Named (Standing A))) → Walk P s c how a l ps xs → length ps + a ≤ c.end
+  pub walk_few : (a : ℕ) (l : Option Place) (ps : List Place) (xs : List (Named (Standing A))) → Walk P s c how a l ps xs → length ps + a ≤ c.end
   walk_few a l [] [] h = omega arith
   walk_few a l [] (x ∷ xs) h = absurd h
   walk_few a l (q ∷ ps) [] h = absurd h
-  walk_few a l (q ∷ ps) (x ∷ xs) h = omega (arith, h.0.some_byte, walk_few q.end (Last q) ps xs h.1)
+  walk_few a l (q ∷ ps) (x ∷ xs) h = omega (arith, h.0.some_byte, walk_few q.end (Some q) ps xs h.1)
 
-  pub look : (m : List ℕ) (a : ℕ) (ps : List Place) (xs : List (Named (Standing A))) (n : ℕ) (l : After) → length ps < n → Walk P s c how a l ps xs
+  pub look : (m : List ℕ) (a : ℕ) (ps : List Place) (xs : List (Named (Standing A))) (n : ℕ) (l : Option Place) → length ps < n → Walk P s c how a l ps xs
       → look_from n s c m l ≡ first_of m ps xs
   unfolding name_view
   look m a ps xs zero l h w = absurd (omega arith)
@@ -114,9 +112,10 @@ module _ {A : Type 0} (P : Place → Standing A → Type 0) (s : List ℕ) (c : 
   look m a (q ∷ ps) [] (suc n) l h w = absurd w
   look m a (q ∷ ps) (x ∷ xs) (suc n) l h w =
       let e : slice w.0.name_start q.start s ≡ x.0 = rw w.0.stepped at w.0.named in
-      rw (w.0.stepped, look_at, e) (go (look m q.end ps xs n (Last q) (omega arith) w.1) (equal x.0 m))
+      rw (w.0.stepped, look_at, e) (go (look m q.end ps xs n (Some q) (omega arith) w.1) (equal x.0 m))
     where
-      go : look_from n s c m (Last q) ≡ first_of m ps xs → (b : Bool)
-          → (elim b as (λ _. Found) [ true ↦ F.At q | false ↦ look_from n s c m (Last q) ]) ≡ cond b (F.At q) (first_of m ps xs)
+      go : look_from n s c m (Some q) ≡ first_of m ps xs → (b : Bool)
+          → (elim b as (λ _. Result (Option Place) PlaceError) [ true ↦ Ok (Some q) | false ↦ look_from n s c m (Some q) ])
+          ≡ cond b (Ok (Some q)) (first_of m ps xs)
       go h true = refl
       go h false = h

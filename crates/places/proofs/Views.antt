@@ -1,16 +1,15 @@
 -- A view is a part of the payload: of any place that passes its check, and of every field that steps reach, leaf or container. What `Seen` says,
 -- specs/Views.antt has.
+use Rattle.std.specs.Prelude.{Ok, Err, Option, None, Some, Result}
 use Prim.Native.Nat.{ℕ, zero, suc, ◌+◌, ◌-◌, ◌≤◌}
 use native.Mathlib.Omega.{arith}
 use mathlib.Core.Path.{◌≡◌, refl, sym, ap, ◌∙◌, subst}
 use mathlib.Core.Logic.{◌⊎◌, inl, inr}
 use mathlib.Core.Bool.{Bool, true, not, cond}
-use mathlib.Core.Option.{some}
 use mathlib.Core.List.{List, [], ◌∷◌, ◌++◌, map, append_assoc}
 use lib.ListN.{length, take, drop, length-append, length-drop, take-append-drop}
 use lib.Seq.{slice, length-slice}
-use Rattle.number.specs.VarUInt.{var_uint}
-use Rattle.number.specs.declared.VarUInt.TheVariants.{Whole}
+use Rattle.number.specs.VarUInt.{var_uint, whole}
 use Rattle.number.proofs.NumberThenLaws.{number_all}
 use Rattle.number.proofs.VarUIntLaws.{var_range, var_local}
 use Rattle.format.specs.declared.Kind.{Kind}
@@ -18,14 +17,6 @@ use Rattle.format.specs.declared.Kind.TheVariants.{Object, UniformObject, Array,
 use Rattle.format.specs.declared.Mark.TheVariants.{SharedByFields, SharedByItems}
 use Rattle.format.specs.declared.Stop.{Stop}
 use Rattle.places.specs.declared.Place.{Place}
-use Rattle.places.specs.declared.After.{After}
-use Rattle.places.specs.declared.After.TheVariants.{Start}
-use Rattle.places.specs.declared.Step.{Step}
-use Rattle.places.specs.declared.Step.TheVariants.{Field, NoMore, WrongKind}
-use Rattle.places.specs.declared.Step.TheVariants as Stepped
-use Rattle.places.specs.declared.Checked.TheVariants as C
-use Rattle.places.specs.declared.Part.TheVariants as P
-use Rattle.places.specs.declared.Top.TheVariants as T
 use Rattle.format.specs.Kinds.{id, known, has_size, type_byte}
 use Rattle.format.specs.declared.Flaw.{Flaw}
 use Rattle.format.specs.declared.Flaw.TheVariants.{Long}
@@ -38,6 +29,10 @@ use Rattle.places.specs.Places.{check, checked_of, checked, top, step, name_in, 
 use Rattle.places.specs.Show.{Reads, Opens, ShownFields, ShownNode, Shown, unnamed}
 use Rattle.places.specs.Stepping.{place_at}
 use Rattle.places.specs.Views.{Between, ContainerView, NodeView, FieldView, Seen}
+use Rattle.places.specs.Made.{part_at, step_met}
+use Rattle.places.specs.declared.PlaceError.TheVariants.{WrongKind, Fault}
+use Rattle.places.specs.declared.Field.{Field}
+use Rattle.places.specs.declared.PlaceError.{PlaceError}
 use Rattle.format.proofs.Lists.{append_nil}
 use Rattle.format.proofs.Back.{never}
 use Rattle.format.proofs.KindLaws.{known_rt}
@@ -52,42 +47,42 @@ use Rattle.number.proofs.Clash.{clash}
 -- ---- any payload and any place, forged or not
 
 -- a place that is refused has an empty view, and its part is refused with the fault of the check
-pub refused_view : (s : List ℕ) (p : Place) (k : Stop) → checked s p ≡ C.Fault k → (part s p ≡ P.Fault k) × (view s p ≡ [])
+pub refused_view : (s : List ℕ) (p : Place) (k : Stop) → checked s p ≡ Err k → (part s p ≡ Err k) × (view s p ≡ [])
 unfolding checked part view
 refused_view s p k h = at (check s p) h
   where
-    at : (o : Out Head) → checked_of o ≡ C.Fault k → (part_of s p o ≡ P.Fault k) × (view_of s (part_of s p o) ≡ [])
-    at (fault j) h = let z : j ≡ k = cc in (ap P.Fault z, refl)
+    at : (o : Out Head) → checked_of o ≡ Err k → (part_of s p o ≡ Err k) × (view_of s (part_of s p o) ≡ [])
+    at (fault j) h = let z : j ≡ k = cc in (ap Err z, refl)
     at (got x fs r) h = clash (cc)
 
 -- the name that a step meets is a part of the payload, up to the field's start; any other answer of the step has an empty one
-pub name_viewed : (s : List ℕ) (c : Place) (last : After) (q : Place) (a : ℕ) → step s c last ≡ Field q a → name_view s c last ≡ slice a q.start s
+pub name_viewed : (s : List ℕ) (c : Place) (last : Option Place) (q : Place) (a : ℕ) → step s c last ≡ step_met q a → name_view s c last ≡ slice a q.start s
 unfolding name_view
 name_viewed s c last q a h = rw h
 
-pub refused_name_view : (s : List ℕ) (c : Place) (last : After) → ((q : Place) (a : ℕ) → step s c last ≡ Field q a → ⊥) → name_view s c last ≡ []
+pub refused_name_view : (s : List ℕ) (c : Place) (last : Option Place) → ((q : Place) (a : ℕ) → step s c last ≡ step_met q a → ⊥) → name_view s c last ≡ []
 unfolding name_view
 refused_name_view s c last h = at (step s c last) refl
   where
-    at : (o : Step) → step s c last ≡ o → name_in s o ≡ []
-    at (Field q a) e = absurd (h q a e)
-    at NoMore e = refl
-    at WrongKind e = refl
-    at (Stepped.Fault k) e = refl
+    at : (o : Result (Option Field) PlaceError) → step s c last ≡ o → name_in s o ≡ []
+    at (Ok (Some p)) e = absurd (h p.place p.name e)
+    at (Ok None) e = refl
+    at (Err WrongKind) e = refl
+    at (Err (Fault k)) e = refl
 
 -- the part of a place that passes
 pub record GoodView (s : List ℕ) (p : Place) : Type 0 where
   pub from : ℕ
   pub begins : from ≡ p.start + size_length (known p.kind) (slice p.start p.end s)
-  pub is_part : part s p ≡ P.At from p.end
+  pub is_part : part s p ≡ part_at from p.end
   pub inside : (p.start ≤ from) × (from ≤ p.end) × (p.end ≤ length s)
   pub is_view : view s p ≡ slice from p.end s
 
-pub good_view : (s : List ℕ) (p : Place) → checked s p ≡ C.Good → GoodView s p
+pub good_view : (s : List ℕ) (p : Place) → checked s p ≡ Ok tt → GoodView s p
 unfolding checked part view
 good_view s p h = at (check s p) refl h
   where
-    at : (o : Out Head) → check s p ≡ o → checked_of o ≡ C.Good → GoodView s p
+    at : (o : Out Head) → check s p ≡ o → checked_of o ≡ Ok tt → GoodView s p
     at (fault k) e h = clash (cc)
     at (got x fs r) e h =
         let i = check_passed s p e in
@@ -107,12 +102,12 @@ size_taken : (w x : List ℕ) (n : ℕ) → Reads read_var_uint w n → taken (v
 unfolding read_var_uint
 size_taken w x n r = number_all (λ o. o ≡ got n r.0 [] → taken (var_uint (w ++ x)) ≡ length w) _ _ w never go r.1
   where
-    go : (v k : ℕ) (m : Bool) → var_uint w ≡ Whole v k m → raise (not m) Long (got v [] (drop k w)) ≡ got n r.0 [] → taken (var_uint (w ++ x)) ≡ length w
+    go : (v k : ℕ) (m : Bool) → var_uint w ≡ whole v k m → raise (not m) Long (got v [] (drop k w)) ≡ got n r.0 [] → taken (var_uint (w ++ x)) ≡ length w
     go v k m e h = raise_got (not m) Long (got v [] (drop k w)) h λ gs j.
         let z : drop k w ≡ [] = cc in
         let t : take k w ≡ w = sym (append_nil (take k w)) ∙ ap (λ y. take k w ++ y) (sym z) ∙ take-append-drop k w in
         let i = var_range w v k m e in
-        let f : var_uint (w ++ x) ≡ Whole v k m = ap (λ y. var_uint (y ++ x)) (sym t) ∙ var_local w v k m e x in
+        let f : var_uint (w ++ x) ≡ whole v k m = ap (λ y. var_uint (y ++ x)) (sym t) ∙ var_local w v k m e x in
         rw f (omega (arith, i.2, sym (length-drop k w) ∙ ap length z))
 
 -- ---- a container
@@ -137,7 +132,7 @@ module _ {A : Type 0} (P : Place → Standing A → Type 0) (s : List ℕ) (k : 
       → ContainerView s k c (kinds_in xs)
   unfolding part view
   fields_viewed f size coded {h} {fs} {r} e =
-      let l : f.contents ≤ c.end = omega (arith, walk_few P s c (payload k) f.contents Start f.places xs f.walk) in
+      let l : f.contents ≤ c.end = omega (arith, walk_few P s c (payload k) f.contents None f.places xs f.walk) in
       let i = check_passed s c e in
       let o = opens_split (payload k) (kinds_in xs) (c.end - f.contents) (slice c.start f.contents s) f.opens in
       let w = o.0 in
@@ -163,11 +158,11 @@ module _ {A : Type 0} (P : Place → Standing A → Type 0) (s : List ℕ) (k : 
         size_is = subst (Reads read_var_uint w) (vl ∙ ap length (sym vw)) o.3;
       }
 
-good_check : {X : Type 0} (s : List ℕ) (c : Place) → checked s c ≡ C.Good → ((h : Head) (fs : List Flaw) (r : List ℕ) → check s c ≡ got h fs r → X) → X
+good_check : {X : Type 0} (s : List ℕ) (c : Place) → checked s c ≡ Ok tt → ((h : Head) (fs : List Flaw) (r : List ℕ) → check s c ≡ got h fs r → X) → X
 unfolding checked
 good_check {X} s c g k = at (check s c) refl g
   where
-    at : (o : Out Head) → check s c ≡ o → checked_of o ≡ C.Good → X
+    at : (o : Out Head) → check s c ≡ o → checked_of o ≡ Ok tt → X
     at (fault j) e h = clash (cc)
     at (got h fs r) e g = k h fs r e
 
@@ -181,7 +176,7 @@ unfolding has_size
 object_size k (inl e) = rw e
 object_size k (inr e) = rw e
 
-node_viewed : (d : ℕ) (s : List ℕ) (k : Kind) (c : Place) (t : Node (Standing (Layout d))) → c.kind ≡ id k → checked s c ≡ C.Good
+node_viewed : (d : ℕ) (s : List ℕ) (k : Kind) (c : Place) (t : Node (Standing (Layout d))) → c.kind ≡ id k → checked s c ≡ Ok tt
     → ShownNode (Shown d s) s k c t → NodeView s k c t
 node_viewed d s k c (atom v) e g i = i.viewed
 node_viewed d s k c (array xs) e g i =
@@ -203,8 +198,8 @@ seen s c (suc d) x i =
     (v, node_viewed d s x.0 c x.1 i.kind i.no_fault i.node, begins_by s c x.0 v.from i.kind v.begins)
 
 -- In any payload that the bounds check passes, at every place that steps from the top reach along a path
-pub every_view : (s : List ℕ) → mask bounds_only s ≡ 0 → (t : Place) → top s ≡ T.At t → (path name : List ℕ) (c : Place)
-    → place_at path s ([], t) ≡ some (name, c) → Seen path s c
+pub every_view : (s : List ℕ) → mask bounds_only s ≡ 0 → (t : Place) → top s ≡ Ok t → (path name : List ℕ) (c : Place)
+    → place_at path s ([], t) ≡ Some (name, c) → Seen path s c
 every_view s h t e path name c p = reached s h t e path name c p λ x f n i.
     let v = seen s c x.0 x.1.1 i in
     record { from = v.0.from; is_part = v.0.is_part; inside = v.0.inside; is_view = v.0.is_view; field = x; is_field = f; begins = v.2; shows = v.1 }

@@ -1,5 +1,6 @@
 -- Every field reached shows what the layout gives it; the walk; lookup: the theorems about the definitions, in the mission's words. What `ShownPayload`,
 -- `Shown` and `ShownFields` say, specs/Show.antt has, and of `Agree`, `stepping`, `events`, `ranges`, `Apart` and `IsFirst`, specs/Stepping.antt.
+use Rattle.std.specs.Prelude.{None, Ok, Some}
 use Prim.Native.Nat.{ℕ, suc, ◌+◌, ◌≤◌, ◌<◌}
 use mathlib.Core.Path.{◌≡◌, refl, ap, sym, ◌∙◌}
 use mathlib.Core.Logic.{◌↔◌}
@@ -11,8 +12,6 @@ use Rattle.number.specs.BigEndian.{All}
 use Rattle.format.specs.declared.Kind.{Kind}
 use Rattle.format.specs.declared.Form.TheVariants.{Top}
 use Rattle.places.specs.declared.Place.{Place}
-use Rattle.places.specs.declared.After.TheVariants.{Start}
-use Rattle.places.specs.declared.Found.TheVariants as F
 use Rattle.format.specs.Parse.{got}
 use Rattle.format.specs.Limits.{depth_limit, length_limit}
 use Rattle.format.specs.Tree.{Tree, object}
@@ -73,33 +72,33 @@ module _ {A : Type 0} (Shows : Place → Standing A → Type 0) (s : List ℕ) (
     (f : ShownFields Shows s k c xs) where
   -- 2. a place for each field
   pub one_place_each : length f.places ≡ length xs
-  one_place_each = walk_each Shows s c (payload k) f.contents Start f.places xs f.walk
+  one_place_each = walk_each Shows s c (payload k) f.contents None f.places xs f.walk
 
   -- 2. each wholly inside its container, none of them empty
   pub fields_inside : All (λ r. (f.contents ≤ r.0) × (r.0 < r.1) × (r.1 ≤ c.end)) (ranges f.contents f.places)
-  fields_inside = (walk_ranges Shows s c (payload k) f.contents Start f.places xs f.walk).0
+  fields_inside = (walk_ranges Shows s c (payload k) f.contents None f.places xs f.walk).0
 
   -- 2. nothing between them left out: one behind the other, their bytes are the contents
   pub nothing_left_out : concat (λ r. slice r.0 r.1 s) (ranges f.contents f.places) ≡ slice f.contents c.end s
-  nothing_left_out = walk_fills Shows s c (payload k) f.contents Start f.places xs f.walk
+  nothing_left_out = walk_fills Shows s c (payload k) f.contents None f.places xs f.walk
 
   -- 2. no two siblings overlapping, neither with all that stands before their payloads, nor as the places say
   pub siblings_apart : Apart (ranges f.contents f.places) × Apart (map payload_range f.places)
   siblings_apart = (
-    (walk_ranges Shows s c (payload k) f.contents Start f.places xs f.walk).1,
-    walk_apart Shows s c (payload k) f.contents Start f.places xs f.walk,
+    (walk_ranges Shows s c (payload k) f.contents None f.places xs f.walk).1,
+    walk_apart Shows s c (payload k) f.contents None f.places xs f.walk,
   )
 
 -- 3. of every object that is shown, and any name m
 module _ (d : ℕ) (s : List ℕ) (c : Place) (k : Kind) (xs : List (Named (Standing (Layout d)))) (i : Shown (suc d) s c (k, object xs)) (m : List ℕ) where
   -- 3. Lookup finds the first field of the tree with that name
-  pub lookup_finds_first : (q : Place) → (lookup s c m ≡ F.At q) ↔ IsFirst m q i.node.fields.places xs
+  pub lookup_finds_first : (q : Place) → (lookup s c m ≡ Ok (Some q)) ↔ IsFirst m q i.node.fields.places xs
   lookup_finds_first q =
       let t = first_found m q i.node.fields.places xs in
       (λ h. t.0 (sym (i.node.looked_up m) ∙ h), λ h. i.node.looked_up m ∙ t.1 h)
 
   -- 3. and "not there" exactly if there is none
-  pub not_there_exactly : (lookup s c m ≡ F.NotThere) ↔ All (λ x. x.0 ≡ m → ⊥) xs
+  pub not_there_exactly : (lookup s c m ≡ Ok None) ↔ All (λ x. x.0 ≡ m → ⊥) xs
   not_there_exactly =
       let t = none_found m i.node.fields.places xs (one_place_each (Shown d s) s k c xs i.node.fields) in
       (λ h. t.0 (sym (i.node.looked_up m) ∙ h), λ h. i.node.looked_up m ∙ t.1 h)

@@ -1,3 +1,4 @@
+pub mod Made
 pub mod Places
 pub mod Placed
 pub mod Contents

@@ -2,6 +2,7 @@
 -- each field's kind as it stands (Reader.antt); `Shown` says what the calls answer at the place of each of its fields,
 -- and `ShownPayload` ties it to a payload.
 use Rattle.std.specs.Prelude.{ℕ, zero, suc, ◌+◌, ◌-◌, ◌^◌, ◌≤◌, ◌<◌, ◌≡◌, ◌⊎◌, true, false, cond, List, [], ◌∷◌, ◌++◌, map, length, ℤ, pos, negsuc}
+use Rattle.std.specs.Prelude.{Option, None, Some, Result, Err, Ok}
 use Rattle.std.proofs.Math.Option.{some}
 use Rattle.std.proofs.Math.Seq.{slice}
 use Rattle.number.specs.BigEndian.{All, from_bytes}
@@ -15,17 +16,6 @@ use Rattle.format.specs.declared.Kind.TheVariants.{ObjectId, CustomById, CustomB
 use Rattle.format.specs.declared.Mark.TheVariants.{OfField, OfItem, SharedByFields, SharedByItems}
 use Rattle.format.specs.declared.Form.TheVariants as Fo
 use Rattle.places.specs.declared.Place.{Place}
-use Rattle.places.specs.declared.After.{After}
-use Rattle.places.specs.declared.After.TheVariants.{Start, Last}
-use Rattle.places.specs.declared.Step.TheVariants.{Field, NoMore, WrongKind}
-use Rattle.places.specs.declared.Found.{Found}
-use Rattle.places.specs.declared.Found.TheVariants as F
-use Rattle.places.specs.declared.Double.TheVariants as D
-use Rattle.places.specs.declared.Signed.TheVariants as I
-use Rattle.places.specs.declared.Unsigned.TheVariants as U
-use Rattle.places.specs.declared.Ticks.TheVariants as T
-use Rattle.places.specs.declared.Checked.TheVariants as C
-use Rattle.places.specs.declared.Top.TheVariants as P
 use Rattle.format.specs.Limits.{depth_limit}
 use Rattle.format.specs.Kinds.{id, type_byte}
 use Rattle.format.specs.declared.Flaw.{Flaw}
@@ -37,6 +27,10 @@ use Rattle.format.specs.Reader.{Standing, Named, Layout, tree, kinds_in, read, t
 use Rattle.places.specs.Places.{checked, top, step, name_view, view, lookup}
 use Rattle.places.specs.Contents.{contents_start}
 use Rattle.places.specs.Values.{Sort, whole, real, time, other, sort_of, float_bits, double, signed, unsigned, ticks}
+use Rattle.places.specs.declared.PlaceError.TheVariants as P
+use Rattle.places.specs.Made.{step_met}
+use Rattle.places.specs.declared.PlaceError.{PlaceError}
+use Rattle.places.specs.declared.ValueError.TheVariants as V
 
 -- ---- a leaf
 
@@ -72,32 +66,32 @@ Viewed k (custom_by_id n t) b = (k ≡ CustomById) × (w : List ℕ) × Reads re
 Viewed k (custom_by_name n t) b = (k ≡ CustomByName) × (w : List ℕ) × Reads read_var_uint w (length n) × (b ≡ w ++ (n ++ t))
 
 abbrev pub NoInteger : List ℕ → Place → Type 0
-NoInteger s p = (signed s p ≡ I.WrongKind) × (unsigned s p ≡ U.WrongKind)
+NoInteger s p = (signed s p ≡ Err V.WrongKind) × (unsigned s p ≡ Err V.WrongKind)
 
 -- an integer signed, unsigned and as a double
 abbrev pub IntegerAnswered : ℤ → List ℕ → Place → Type 0
 IntegerAnswered (pos n) s p =
-    (n < 2 ^ 63 → signed s p ≡ I.Is (pos n)) × (2 ^ 63 ≤ n → signed s p ≡ I.OutOfRange)
-    × (unsigned s p ≡ U.Is n)
-    × (n ≤ 2 ^ 53 → double s p ≡ D.Bits (of_integer (pos n))) × (2 ^ 53 < n → double s p ≡ D.OutOfRange)
+    (n < 2 ^ 63 → signed s p ≡ Ok (pos n)) × (2 ^ 63 ≤ n → signed s p ≡ Err V.OutOfRange)
+    × (unsigned s p ≡ Ok n)
+    × (n ≤ 2 ^ 53 → double s p ≡ Ok (of_integer (pos n))) × (2 ^ 53 < n → double s p ≡ Err V.OutOfRange)
 IntegerAnswered (negsuc m) s p =
-    (m < 2 ^ 63 → signed s p ≡ I.Is (negsuc m)) × (2 ^ 63 ≤ m → signed s p ≡ I.OutOfRange)
-    × (unsigned s p ≡ U.OutOfRange)
-    × (m < 2 ^ 53 → double s p ≡ D.Bits (of_integer (negsuc m))) × (2 ^ 53 ≤ m → double s p ≡ D.OutOfRange)
+    (m < 2 ^ 63 → signed s p ≡ Ok (negsuc m)) × (2 ^ 63 ≤ m → signed s p ≡ Err V.OutOfRange)
+    × (unsigned s p ≡ Err V.OutOfRange)
+    × (m < 2 ^ 53 → double s p ≡ Ok (of_integer (negsuc m))) × (2 ^ 53 ≤ m → double s p ≡ Err V.OutOfRange)
 
 -- what the value calls answer, by what the leaf is to them
 abbrev pub Answered : Sort → List ℕ → Place → Type 0
-Answered (whole z) s p = IntegerAnswered z s p × (ticks s p ≡ T.WrongKind)
-Answered (real x) s p = NoInteger s p × (double s p ≡ D.Bits (float_bits x)) × (ticks s p ≡ T.WrongKind)
-Answered (time z) s p = NoInteger s p × (double s p ≡ D.WrongKind) × (ticks s p ≡ T.Are z)
-Answered other s p = NoInteger s p × (double s p ≡ D.WrongKind) × (ticks s p ≡ T.WrongKind)
+Answered (whole z) s p = IntegerAnswered z s p × (ticks s p ≡ Err P.WrongKind)
+Answered (real x) s p = NoInteger s p × (double s p ≡ Ok (float_bits x)) × (ticks s p ≡ Err P.WrongKind)
+Answered (time z) s p = NoInteger s p × (double s p ≡ Err V.WrongKind) × (ticks s p ≡ Ok z)
+Answered other s p = NoInteger s p × (double s p ≡ Err V.WrongKind) × (ticks s p ≡ Err P.WrongKind)
 
 -- kind and view, values, and that it has no fields
 pub record ShownLeaf (s : List ℕ) (k : Kind) (p : Place) (v : Leaf) : Type 0 where
   pub viewed : Viewed k v (view s p)
   pub answered : Answered (sort_of v) s p
-  pub no_step : (l : After) → step s p l ≡ WrongKind
-  pub no_lookup : (m : List ℕ) → lookup s p m ≡ F.WrongKind
+  pub no_step : (l : Option Place) → step s p l ≡ Err P.WrongKind
+  pub no_lookup : (m : List ℕ) → lookup s p m ≡ Err P.WrongKind
 
 -- ---- the fields of a container
 
@@ -121,10 +115,10 @@ Before shared_items k n b = b ≡ []
 
 -- the step after l in the container c, whose fields stand so, meets the field x at the place q: its name is the name view, and it begins at a, where
 -- the last field ended, with all before its name, then the name, then its payload
-pub record Meets {A : Type 0} (Shows : Place → Standing A → Type 0) (s : List ℕ) (c : Place) (how : Payload) (a : ℕ) (l : After) (q : Place)
+pub record Meets {A : Type 0} (Shows : Place → Standing A → Type 0) (s : List ℕ) (c : Place) (how : Payload) (a : ℕ) (l : Option Place) (q : Place)
     (x : Named (Standing A)) : Type 0 where
   pub name_start : ℕ
-  pub stepped : step s c l ≡ Field q name_start
+  pub stepped : step s c l ≡ step_met q name_start
   pub named : name_view s c l ≡ x.0
   pub deeper : q.depth ≡ c.depth + 1
   pub before : Before how x.1.0 x.0 (slice a name_start s)
@@ -137,17 +131,17 @@ pub record Meets {A : Type 0} (Shows : Place → Standing A → Type 0) (s : Lis
   pub shown : Shows q x.1
 
 -- stepping on after l meets the fields xs at the places ps, one for each and in order, one behind the other from a to the end of c; and then no more
-abbrev pub Walk : {A : Type 0} → (Place → Standing A → Type 0) → List ℕ → Place → Payload → ℕ → After → List Place → List (Named (Standing A)) → Type 0
-Walk Shows s c how a l [] [] = (step s c l ≡ NoMore) × (a ≡ c.end)
+abbrev pub Walk : {A : Type 0} → (Place → Standing A → Type 0) → List ℕ → Place → Payload → ℕ → Option Place → List Place → List (Named (Standing A)) → Type 0
+Walk Shows s c how a l [] [] = (step s c l ≡ Ok None) × (a ≡ c.end)
 Walk Shows s c how a l [] (x ∷ xs) = ⊥
 Walk Shows s c how a l (q ∷ ps) [] = ⊥
-Walk Shows s c how a l (q ∷ ps) (x ∷ xs) = Meets Shows s c how a l q x × Walk Shows s c how q.end (Last q) ps xs
+Walk Shows s c how a l (q ∷ ps) (x ∷ xs) = Meets Shows s c how a l q x × Walk Shows s c how q.end (Some q) ps xs
 
 -- the place of the first field with the name m
-abbrev pub first_of : {A : Type 0} → List ℕ → List Place → List (Named A) → Found
-first_of m [] xs = F.NotThere
-first_of m (q ∷ ps) [] = F.NotThere
-first_of m (q ∷ ps) (x ∷ xs) = cond (equal x.0 m) (F.At q) (first_of m ps xs)
+abbrev pub first_of : {A : Type 0} → List ℕ → List Place → List (Named A) → Result (Option Place) PlaceError
+first_of m [] xs = Ok None
+first_of m (q ∷ ps) [] = Ok None
+first_of m (q ∷ ps) (x ∷ xs) = cond (equal x.0 m) (Ok (Some q)) (first_of m ps xs)
 
 -- the fields of the container at c, from where its contents begin
 pub record ShownFields {A : Type 0} (Shows : Place → Standing A → Type 0) (s : List ℕ) (k : Kind) (c : Place) (xs : List (Named (Standing A))) : Type 0 where
@@ -156,7 +150,7 @@ pub record ShownFields {A : Type 0} (Shows : Place → Standing A → Type 0) (s
   pub starts : contents_start s c ≡ contents
   pub inside : c.start ≤ contents
   pub opens : Opens (payload k) (kinds_in xs) (c.end - contents) (slice c.start contents s)
-  pub walk : Walk Shows s c (payload k) contents Start places xs
+  pub walk : Walk Shows s c (payload k) contents None places xs
   pub answered : Answered other s c
 
 -- an item has no name
@@ -168,7 +162,7 @@ unnamed x = ([], x)
 pub record ShownArray {A : Type 0} (Shows : Place → Standing A → Type 0) (s : List ℕ) (k : Kind) (p : Place) (xs : List (Standing A)) : Type 0 where
   pub is_array : (k ≡ Array) ⊎ (k ≡ UniformArray)
   pub items : ShownFields Shows s k p (map unnamed xs)
-  pub no_lookup : (m : List ℕ) → lookup s p m ≡ F.WrongKind
+  pub no_lookup : (m : List ℕ) → lookup s p m ≡ Err P.WrongKind
 
 pub record ShownObject {A : Type 0} (Shows : Place → Standing A → Type 0) (s : List ℕ) (k : Kind) (p : Place) (xs : List (Named (Standing A))) : Type 0 where
   pub is_object : (k ≡ Object) ⊎ (k ≡ UniformObject)
@@ -183,7 +177,7 @@ ShownNode Shows s k p (object xs) = ShownObject Shows s k p xs
 -- its kind, that its check finds no fault, and what it is
 pub record ShownField {A : Type 0} (Shows : Place → Standing A → Type 0) (s : List ℕ) (p : Place) (x : Standing (Node (Standing A))) : Type 0 where
   pub kind : p.kind ≡ id x.0
-  pub no_fault : checked s p ≡ C.Good
+  pub no_fault : checked s p ≡ Ok tt
   pub node : ShownNode Shows s x.0 p x.1
 
 -- and so for the fields in it, d levels in all
@@ -200,7 +194,7 @@ pub record ShownPayload (s : List ℕ) : Type 0 where
   pub was_read : read depth_limit Fo.Top s ≡ got ([], (kind, layout)) flaws left
   pub place : Place
   pub its_tree : tree_of s ≡ some (tree depth_limit layout)
-  pub is_top : top s ≡ P.At place
+  pub is_top : top s ≡ Ok place
   pub begins : place.start ≡ 1
   pub ends : place.end + length left ≡ length s
   pub depth_1 : place.depth ≡ 1

@@ -1,25 +1,23 @@
 -- Stepping as a whole: along a path, through a whole payload; where siblings stand; the first of a name. With Show.antt these are the words of the theorems in
 -- proofs/Walk.antt.
-use Rattle.std.specs.Prelude.{ℕ, zero, suc, ◌+◌, ◌≤◌, ◌≡◌, ◌⊎◌, List, [], ◌∷◌, ◌++◌, map}
-use Rattle.std.proofs.Math.Option.{Option, none, some}
+use Rattle.std.specs.Prelude.{ℕ, zero, suc, ◌+◌, ◌≤◌, ◌≡◌, ◌⊎◌, List, [], ◌∷◌, ◌++◌, map, Option, Some, None, Ok, Result, Err}
 use Rattle.std.proofs.Math.Seq.{slice}
 use Rattle.number.specs.BigEndian.{All}
 use Rattle.places.specs.declared.Place.{Place}
-use Rattle.places.specs.declared.After.{After}
-use Rattle.places.specs.declared.After.TheVariants.{Start, Last}
-use Rattle.places.specs.declared.Step.{Step}
-use Rattle.places.specs.declared.Step.TheVariants.{Field, NoMore, WrongKind, Fault}
 use Rattle.format.specs.Kinds.{id}
 use Rattle.format.specs.Tree.{Node, atom, array, object}
 use Rattle.format.specs.Reader.{Standing, Named, Layout}
 use Rattle.places.specs.Places.{step, name_view}
 use Rattle.places.specs.Show.{unnamed, Shown}
+use Rattle.places.specs.declared.PlaceError.TheVariants.{WrongKind, Fault}
+use Rattle.places.specs.declared.Field.{Field}
+use Rattle.places.specs.declared.PlaceError.{PlaceError}
 
 -- ---- along a path: which field, counted from 0, in the top field, then which in that one, and so on
 
 abbrev pub nth : {A : Type 0} → ℕ → List A → Option A
-nth i [] = none
-nth zero (x ∷ xs) = some x
+nth i [] = None
+nth zero (x ∷ xs) = Some x
 nth (suc i) (x ∷ xs) = nth i xs
 
 abbrev pub fields_of : {A : Type 0} → Node A → List (Named A)
@@ -32,75 +30,75 @@ abbrev pub Reached : Type 0
 Reached = (d : ℕ) × Named (Standing (Layout d))
 
 abbrev pub onward : {A B : Type 0} → (A → Option B) → Option A → Option B
-onward f none = none
-onward f (some x) = f x
+onward f None = None
+onward f (Some x) = f x
 
 -- in the layout
 abbrev pub field_at : List ℕ → (d : ℕ) → Named (Standing (Layout d)) → Option Reached
-field_at [] d x = some (d, x)
-field_at (i ∷ is) zero x = none
+field_at [] d x = Some (d, x)
+field_at (i ∷ is) zero x = None
 field_at (i ∷ is) (suc d) x = onward (field_at is d) (nth i (fields_of x.1.1))
 
 -- by steps: the name view n of a step and the place that it gives; `more` steps on behind it
-abbrev pub told : List ℕ → Step → Option (Named Place)
-told n (Field q a) = some (n, q)
-told n NoMore = none
-told n WrongKind = none
-told n (Fault k) = none
+abbrev pub told : List ℕ → Result (Option Field) PlaceError → Option (Named Place)
+told n (Ok (Some p)) = Some (n, p.place)
+told n (Ok None) = None
+told n (Err WrongKind) = None
+told n (Err (Fault k)) = None
 
-abbrev pub behind : (Place → Option (Named Place)) → Step → Option (Named Place)
-behind more (Field q a) = more q
-behind more NoMore = none
-behind more WrongKind = none
-behind more (Fault k) = none
+abbrev pub behind : (Place → Option (Named Place)) → Result (Option Field) PlaceError → Option (Named Place)
+behind more (Ok (Some p)) = more p.place
+behind more (Ok None) = None
+behind more (Err WrongKind) = None
+behind more (Err (Fault k)) = None
 
-abbrev pub step_to : ℕ → List ℕ → Place → After → Option (Named Place)
+abbrev pub step_to : ℕ → List ℕ → Place → Option Place → Option (Named Place)
 step_to zero s c l = told (name_view s c l) (step s c l)
-step_to (suc i) s c l = behind (λ q. step_to i s c (Last q)) (step s c l)
+step_to (suc i) s c l = behind (λ q. step_to i s c (Some q)) (step s c l)
 
 abbrev pub place_at : List ℕ → List ℕ → Named Place → Option (Named Place)
-place_at [] s x = some x
-place_at (i ∷ is) s x = onward (place_at is s) (step_to i s x.1 Start)
+place_at [] s x = Some x
+place_at (i ∷ is) s x = onward (place_at is s) (step_to i s x.1 None)
 
 -- there is no field and no place; or the name view met is the field's name, and its place shows the field: its kind and its value
 abbrev pub Agree : List ℕ → Option Reached → Option (Named Place) → Type 0
-Agree s none none = Unit {0}
-Agree s none (some q) = ⊥
-Agree s (some x) none = ⊥
-Agree s (some x) (some q) = (q.0 ≡ x.1.0) × Shown x.0 s q.1 x.1.1
+Agree s None None = Unit {0}
+Agree s None (Some q) = ⊥
+Agree s (Some x) None = ⊥
+Agree s (Some x) (Some q) = (q.0 ≡ x.1.0) × Shown x.0 s q.1 x.1.1
 
 -- ---- all that stepping meets, and all that stands in a layout
 
 -- a field's name, kind and depth; or the answer with which stepping ends, in a container or on a leaf
 pub data Event : Type 0 where
   met : List ℕ → ℕ → ℕ → Event
-  ended : Step → Event
+  ended : Result (Option Field) PlaceError → Event
 
 -- what is met behind a step's answer: `below` the field, and `more` behind it
-abbrev pub events_at : List ℕ → (Place → List Event) → (Place → List Event) → Step → List Event
-events_at s below more (Field q n) = met (slice n q.start s) q.kind q.depth ∷ (below q ++ more q)
-events_at s below more NoMore = ended NoMore ∷ []
-events_at s below more WrongKind = ended WrongKind ∷ []
-events_at s below more (Fault k) = ended (Fault k) ∷ []
+abbrev pub events_at : List ℕ → (Place → List Event) → (Place → List Event) → Result (Option Field) PlaceError → List Event
+events_at s below more (Ok (Some p)) = met (slice p.name p.place.start s) p.place.kind p.place.depth ∷ (below p.place ++ more p.place)
+events_at s below more (Ok None) = ended (Ok None) ∷ []
+events_at s below more (Err WrongKind) = ended (Err WrongKind) ∷ []
+events_at s below more (Err (Fault k)) = ended (Err (Fault k)) ∷ []
 
 -- the number bounds the steps, and the container's end is enough
-abbrev pub steps_from : (Place → List Event) → ℕ → List ℕ → Place → After → List Event
+abbrev pub steps_from : (Place → List Event) → ℕ → List ℕ → Place → Option Place → List Event
 steps_from below zero s c l = []
-steps_from below (suc n) s c l = events_at s below (λ q. steps_from below n s c (Last q)) (step s c l)
+steps_from below (suc n) s c l = events_at s below (λ q. steps_from below n s c (Some q)) (step s c l)
 
 -- stepping from the start of c, and of each field met there, d levels down
 abbrev pub stepping : (d : ℕ) → List ℕ → Place → List Event
 stepping zero s c = []
-stepping (suc d) s c = steps_from (stepping d s) (suc c.end) s c Start
+stepping (suc d) s c = steps_from (stepping d s) (suc c.end) s c None
 
 -- the fields of a container, in order, at their depth, each with all below it; and then no more
 abbrev pub field_events : {A : Type 0} → (Standing A → List Event) → ℕ → List (Named (Standing A)) → List Event
-field_events below depth [] = ended NoMore ∷ []
+field_events below depth [] = ended (Ok None) ∷ []
 field_events below depth (x ∷ xs) = met x.0 (id x.1.0) depth ∷ (below x.1 ++ field_events below depth xs)
 
 -- a leaf has none
 abbrev pub node_events : {A : Type 0} → (Standing A → List Event) → ℕ → Node (Standing A) → List Event
-node_events below depth (atom v) = ended WrongKind ∷ []
+node_events below depth (atom v) = ended (Err WrongKind) ∷ []
 node_events below depth (array xs) = field_events below depth (map unnamed xs)
 node_events below depth (object xs) = field_events below depth xs
 

@@ -1,13 +1,11 @@
 -- What a view shows, by steps along a path: the words of proofs/Views.antt.
-use Rattle.std.specs.Prelude.{ℕ, zero, suc, ◌+◌, ◌≤◌, ◌≡◌, cond, List, [], ◌∷◌, ◌++◌, length}
-use Rattle.std.proofs.Math.Option.{some}
+use Rattle.std.specs.Prelude.{ℕ, zero, suc, ◌+◌, ◌≤◌, ◌≡◌, cond, List, [], ◌∷◌, ◌++◌, length, Some}
 use Rattle.std.proofs.Math.Seq.{slice}
 use Rattle.number.specs.BigEndian.{All}
 use Rattle.number.specs.VarUInt.{var_uint}
 use Rattle.format.specs.declared.Kind.{Kind}
 use Rattle.format.specs.declared.Mark.TheVariants.{SharedByFields, SharedByItems}
 use Rattle.places.specs.declared.Place.{Place}
-use Rattle.places.specs.declared.Part.TheVariants as P
 use Rattle.format.specs.Kinds.{type_byte, has_size}
 use Rattle.format.specs.Parse.{read_var_uint}
 use Rattle.format.specs.Tree.{Node, atom, array, object}
@@ -18,6 +16,7 @@ use Rattle.places.specs.Show.{Reads, Viewed}
 use Rattle.places.specs.Stepping.{fields_of, Reached}
 use Rattle.places.specs.Contents.{contents_start}
 use Rattle.places.specs.Siblings.{field_in}
+use Rattle.places.specs.Made.{part_at}
 
 -- what stands between a container's size and its contents, by how its fields stand: their count, and the byte that they share. ks are their kinds
 abbrev pub Between : Payload → List Kind → List ℕ → Type 0
@@ -33,7 +32,7 @@ pub record ContainerView (s : List ℕ) (k : Kind) (c : Place) (ks : List Kind) 
   pub between : List ℕ
   pub opening : slice c.start (contents_start s c) s ≡ size ++ between
   pub is_between : Between (payload k) ks between
-  pub is_part : part s c ≡ P.At (c.start + length size) c.end
+  pub is_part : part s c ≡ part_at (c.start + length size) c.end
   pub is_view : view s c ≡ between ++ slice (contents_start s c) c.end s
   pub size_is : Reads read_var_uint size (length (view s c))
 
@@ -50,10 +49,10 @@ FieldView (suc d) s c x = NodeView s x.0 c x.1
 -- ends; and it shows the field that the reader has there
 pub record Seen (path payload : List ℕ) (c : Place) : Type 0 where
   pub from : ℕ
-  pub is_part : part payload c ≡ P.At from c.end
+  pub is_part : part payload c ≡ part_at from c.end
   pub inside : (c.start ≤ from) × (from ≤ c.end) × (c.end ≤ length payload)
   pub is_view : view payload c ≡ slice from c.end payload
   pub field : Reached
-  pub is_field : field_in path payload ≡ some field
+  pub is_field : field_in path payload ≡ Some field
   pub begins : from ≡ c.start + cond (has_size field.1.1.0) (taken (var_uint (slice c.start c.end payload))) 0
   pub shows : FieldView field.0 payload c field.1.1

@@ -5,8 +5,8 @@ use native.Mathlib.Omega.{arith}
 use mathlib.Core.Path.{◌≡◌, refl, ap, ◌∙◌}
 use mathlib.Core.Bool.{Bool, true, false, cond}
 use mathlib.Core.List.{List, [], ◌∷◌, ◌++◌, append_assoc}
-use lib.ListN.{length, take, get_or, set, length-append}
-use lib.Seq.{sets, length-sets, take-suc, take_all, length-take-le}
+use lib.ListN.{length, take, drop, get_or, set, length-append}
+use lib.Seq.{sets, sets-eq, drop-drop, take-length, length-sets, take-suc, length-take-le}
 use borrow.Author.Tests.{lt-ltb, le-ltb}
 use lib.Dec.{ltb}
 use Rattle.format.specs.Encoding.{concat}
@@ -40,17 +40,11 @@ put_one text at x = refl
 
 -- ---- a word
 
-pub word_on : (word start text : List ℕ) (at i : ℕ) → i < length word → text ≡ sets start at (take i word)
-    → set text (at + i) (get_or word i 0) ≡ sets start at (take (i + 1) word)
-word_on word start text at i h e =
-    let n : length (take i word) ≡ i = length-take-le i word (omega arith) in
-    let z = sets_append (take i word) (get_or word i 0 ∷ []) start at in
-    rw (e, add-one i, take-suc word i 0 h) (rw n at z)
-
-pub word_end : (word start text : List ℕ) (at i : ℕ) → length word ≤ i → i ≤ length word → text ≡ sets start at (take i word)
-    → record { next = at + i; text = text } ≡ put word start at
+-- as `copy_from_slice` leaves it, of the n characters from a place on
+pub word_copied : (word now text : List ℕ) (at n : ℕ) → now ≡ word → n ≡ length word → at + length word ≤ length text
+    → record { next = at + length word; text = take at text ++ (now ++ drop n (drop at text)) } ≡ put word text at
 unfolding put
-word_end word start text at i h k e = let n : i ≡ length word = omega arith in rw (e, take_all i word h, n)
+word_copied word now text at n e f h = rw (e, f, drop-drop, sets-eq word text at h, append_assoc)
 
 -- ---- decimal
 
@@ -82,12 +76,6 @@ decimal_length (suc d) n = at (ltb n 10) (decimal_length d (n / 10))
 
 -- ---- bytes
 
-pub digit_low : (n : ℕ) → n < 10 → 0x30 + n ≡ hex_digit n
-digit_low n h = rw (lt-ltb n 10 h)
-
-pub digit_high : (n : ℕ) → 10 ≤ n → 0x61 + (n - 10) ≡ hex_digit n
-digit_high n h = rw (le-ltb n 10 h)
-
 pub bytes_length : (s : List ℕ) → length (concat hex_byte s) ≡ 2 * length s
 bytes_length [] = refl
 bytes_length (b ∷ s) = omega (arith, bytes_length s)
@@ -107,10 +95,10 @@ bytes_on part start text i x y h e f g =
     let z = sets_append s (hex_byte b) start 0 in
     rw (e, f, g, k, add-one i, take-suc part i 0 h, bytes_snoc (take i part) b) (rw n at z)
 
-pub bytes_end : (part start text : List ℕ) (i : ℕ) → length part ≤ i → i ≤ length part → text ≡ sets start 0 (concat hex_byte (take i part))
-    → record { next = 2 * i; text = text } ≡ put (concat hex_byte part) start 0
+pub bytes_end : (part start text : List ℕ) → text ≡ sets start 0 (concat hex_byte (take (length part) part))
+    → record { next = 2 * length part; text = text } ≡ put (concat hex_byte part) start 0
 unfolding put
-bytes_end part start text i h k e = let n : 2 * i ≡ 0 + 2 * length part = omega arith in rw (e, take_all i part h, n, bytes_length part)
+bytes_end part start text e = let n : 2 * length part ≡ 0 + 2 * length part = omega arith in rw (e, take-length part, n, bytes_length part)
 
 -- ---- room
 

@@ -9,10 +9,10 @@ fn hex_digit(n: u8) -> u8
     requires { n < 16 }
     ensures { result ≡ hex_digit n }
 {
-    if n < 10 {
-        return 0x30 + n;
+    match n {
+        0..=9 => b'0' + n,
+        _ => b'a' + (n - 10),
     }
-    0x61 + (n - 10)
 }
 
 // Characters one behind the other.
@@ -20,12 +20,9 @@ fn put_word(word: &[u8], text: &mut [u8], at: usize) -> usize
     requires { at + length word.now ≤ length text.old }
     ensures { record { next = result; text = text.new } ≡ put word.now text.old at }
 {
-    let mut i = 0;
-    while i < word.len() {
-        text[at + i] = word[i];
-        i += 1;
-    }
-    at + i
+    let end = at + word.len();
+    text[at..end].copy_from_slice(word);
+    end
 }
 
 // A number in decimal, in as few digits as it takes, of which there are at most as many as said.
@@ -38,11 +35,11 @@ fn put_decimal(digits: usize, n: u64, text: &mut [u8], at: usize) -> usize
         return at;
     }
     if n < 10 {
-        text[at] = 0x30 + n as u8;
+        text[at] = b'0' + n as u8;
         return at + 1;
     }
     let last = put_decimal(digits - 1, n / 10, text, at);
-    text[last] = 0x30 + (n % 10) as u8;
+    text[last] = b'0' + (n % 10) as u8;
     last + 1
 }
 
@@ -51,14 +48,11 @@ fn put_bytes(part: &[u8], text: &mut [u8]) -> usize
     requires { 2 * length part.now ≤ length text.old }
     ensures { record { next = result; text = text.new } ≡ put (concat hex_byte part.now) text.old 0 }
 {
-    let mut i = 0;
-    while i < part.len() {
-        let b = part[i];
+    for (i, &b) in part.iter().enumerate() {
         text[2 * i] = hex_digit(b / 16);
         text[2 * i + 1] = hex_digit(b % 16);
-        i += 1;
     }
-    2 * i
+    2 * part.len()
 }
 
 // `refused N at P`, and its line end.
@@ -99,10 +93,7 @@ pub fn put_encoding(encoding: &[u8], text: &mut [u8]) -> usize
     ensures { record { next = result; text = text.new }
         ≡ put_in (2 * length encoding.now + 1) (concat hex_byte encoding.now ++ line_end) text.old }
 {
-    if text.len() == 0 {
-        return 0;
-    }
-    if (text.len() - 1) / 2 < encoding.len() {
+    if text.len().div_ceil(2) <= encoding.len() {
         return 0;
     }
     encoding_in(encoding, text)

@@ -1,4 +1,5 @@
 -- Input that is read in parts: what the program answers to it is what `program` prints of all of it.
+use Rattle.std.specs.Prelude.{Option, Some}
 use Prim.Native.Nat.{ℕ, ◌+◌, ◌-◌, ◌^◌, ◌≤◌, ◌<◌}
 use native.Mathlib.Omega.{arith}
 use mathlib.Core.Path.{◌≡◌, refl, sym, ap, subst, ◌∙◌}
@@ -11,8 +12,6 @@ use Rattle.frames.specs.Program.{Typed, typed, mistyped, program_of, bytes_typed
 use Rattle.hexadecimal.specs.declared.Typing.{Typing}
 use Rattle.hexadecimal.specs.Typing.{Fed, afterwards, start, onward, fed}
 use Rattle.hexadecimal.proofs.Parts.{parts}
-use Rattle.program.specs.declared.Reading.{Reading}
-use Rattle.program.specs.declared.Reading.TheVariants as R
 use Rattle.answers.specs.Answer.{is_refused, Answered, answered_of, answered}
 use Rattle.program.specs.Input.{fed_parts, joined, Reached, Heard, status_of, Ran}
 use Rattle.answers.proofs.WholeInput.{text_of, length_of, in_whole}
@@ -68,7 +67,7 @@ reached_more before t l c n left chunk r k h m e =
     let d = reached_on before t l c (take n chunk) r k (omega arith) e in
     (d.0, omega (arith, d.1))
 
-pub heard : (r : Reading) (before list : List ℕ) → Heard r before list → (t : Typing) → r ≡ R.Typed t → Reached before t list
+pub heard : (r : Option Typing) (before list : List ℕ) → Heard r before list → (t : Typing) → r ≡ Some t → Reached before t list
 heard r before list h t e = subst (λ x. Heard x before list) e h
 
 -- ---- the run

@@ -1,14 +1,12 @@
 -- Input that is read in parts: each is typed on behind those before it. No contract can say what is read: these say that what is typed, and then printed, is
 -- that of some parts, whatever they were, typed from nothing, one behind the other. That they are what stands in the input is run (tests/statuses,
 -- tests/answer), and not proved.
-use Rattle.std.specs.Prelude.{ℕ, ◌^◌, ◌≤◌, ◌<◌, ◌≡◌, List, [], ◌∷◌, ◌++◌, length}
+use Rattle.std.specs.Prelude.{ℕ, ◌^◌, ◌≤◌, ◌<◌, ◌≡◌, List, [], ◌∷◌, ◌++◌, length, Option, Some, None}
 use Rattle.format.specs.Encoding.{concat}
 use Rattle.frames.specs.Writer.{Outcome, refuse, wrote}
 use Rattle.frames.specs.Program.{bytes_typed, program_of, program}
 use Rattle.hexadecimal.specs.declared.Typing.{Typing}
 use Rattle.hexadecimal.specs.Typing.{Fed, afterwards, start, onward, fed}
-use Rattle.program.specs.declared.Reading.{Reading}
-use Rattle.program.specs.declared.Reading.TheVariants as R
 
 abbrev pub fed_parts : List (List ℕ) → Typing → List ℕ → Fed
 fed_parts [] t l = afterwards t l
@@ -23,9 +21,10 @@ pub record Reached (before : List ℕ) (t : Typing) (list : List ℕ) : Type 0 w
   pub few : length (joined parts) < 2 ^ 64
   pub is : afterwards t list ≡ fed_parts parts start before
 
-abbrev pub Heard : Reading → List ℕ → List ℕ → Type 0
-Heard (R.Typed t) before list = Reached before t list
-Heard R.Failed before list = Unit {0}
+-- none where a read failed
+abbrev pub Heard : Option Typing → List ℕ → List ℕ → Type 0
+Heard (Some t) before list = Reached before t list
+Heard None before list = Unit {0}
 
 -- the exit status of an answer that was written
 abbrev pub status_of : Outcome → ℕ

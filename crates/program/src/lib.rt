@@ -9,36 +9,22 @@ use hexadecimal::Typing;
 use std::io::{Read, Write};
 use std::rt::{Stderr, Stdin, Stdout};
 
-// What was typed of all that was read; or a read failed.
-#[derive(Clone, Copy)]
-pub enum Reading {
-    Typed(Typing),
-    Failed,
-}
-
-// Reads all of the input, in parts that go through `chunk`. A proved loop has to end, so it counts down how many bytes there may be, from
-// 2^64 - 1: as many as can be counted.
-fn read_all(input: &mut Stdin, chunk: &mut [u8], list: &mut [u8]) -> Reading
+// Reads all of the input, in parts that go through `chunk`: what was typed, or none where a read fails. A proved loop has to end, so it counts down how
+// many bytes there may be, from 2^64 - 1: as many as can be counted.
+fn read_all(input: &mut Stdin, chunk: &mut [u8], list: &mut [u8]) -> Option<Typing>
     ensures { Heard result list.old list.new }
 {
     let mut typing = hexadecimal::nothing();
     let mut left = u64::MAX;
     while left > 0 {
-        match input.read(chunk) {
-            Ok(n) => {
-                if n == 0 {
-                    return Reading::Typed(typing);
-                }
-                if left < n as u64 {
-                    return Reading::Failed;
-                }
-                typing = hexadecimal::feed(&chunk[..n], typing, list);
-                left -= n as u64;
-            }
-            Err(_) => return Reading::Failed,
+        let n = input.read(chunk).ok()?;
+        if n == 0 {
+            return Some(typing);
         }
+        left = left.checked_sub(n as u64)?;
+        typing = hexadecimal::feed(&chunk[..n], typing, list);
     }
-    Reading::Failed
+    None
 }
 
 // Says on standard error why there is no answer. Where that fails too, the exit status is all that is left to say it.
@@ -71,16 +57,12 @@ fn run(
 ) -> u32
     ensures { Ran result text.new ⊎ (result ≡ 2) }
 {
-    match read_all(input, text, list) {
-        Reading::Typed(typing) => {
-            let printed = answers::answer(typing, list, out, numbers, text);
-            print(output, error, printed, text)
-        }
-        Reading::Failed => {
-            complain(error, b"write_list: standard input cannot be read\n");
-            2
-        }
-    }
+    let Some(typing) = read_all(input, text, list) else {
+        complain(error, b"write_list: standard input cannot be read\n");
+        return 2;
+    };
+    let printed = answers::answer(typing, list, out, numbers, text);
+    print(output, error, printed, text)
 }
 
 // The whole program; the answer is its exit status. What it lends, some 330,000 bytes, is on the stack, with some 87,000 of the writer's own. The

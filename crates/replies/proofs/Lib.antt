@@ -1,3 +1,2 @@
 pub mod ReplyLaws
-pub mod TwosLaws
 pub mod OneAnswer

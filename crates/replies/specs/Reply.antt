@@ -1,20 +1,16 @@
 -- Answers in numbers: the number of the case (document 01's for a fault), and its values.
-use Rattle.std.specs.Prelude.{ℕ, cond, List, [], ◌∷◌, length, ltb}
+use Rattle.std.specs.Prelude.{ℕ, cond, List, [], ◌∷◌, length, ltb, Ok, Result, Err, ℤ}
 use Rattle.std.proofs.lemmas.List.Edits.{sets}
 use Rattle.number.specs.Signed.{to_twos}
 use Rattle.number.specs.VarUInt.{var_uint}
-use Rattle.number.specs.declared.VarUInt.{VarUInt}
-use Rattle.number.specs.declared.VarUInt.TheVariants.{Cut, Whole}
-use Rattle.places.specs.declared.Double.{Double}
-use Rattle.places.specs.declared.Double.TheVariants as D
-use Rattle.places.specs.declared.Signed.{Signed}
-use Rattle.places.specs.declared.Signed.TheVariants as I
-use Rattle.places.specs.declared.Unsigned.{Unsigned}
-use Rattle.places.specs.declared.Unsigned.TheVariants as U
-use Rattle.places.specs.declared.Ticks.{Ticks}
-use Rattle.places.specs.declared.Ticks.TheVariants as K
+use Rattle.places.specs.declared.PlaceError.{PlaceError}
+use Rattle.places.specs.declared.PlaceError.TheVariants as P
+use Rattle.places.specs.declared.ValueError.{ValueError}
+use Rattle.places.specs.declared.ValueError.TheVariants as V
 use Rattle.format.specs.Mask.{stop_value}
 use Rattle.replies.specs.Number.{truth, too_few, Afterwards, afterwards}
+use Rattle.number.specs.declared.VarUInt.{VarUInt}
+use Rattle.number.specs.declared.Cut.{Cut}
 
 pub record Reply : Type 0 where
   pub code : ℕ
@@ -43,37 +39,41 @@ out_of_range = 7
 abbrev pub told : ℕ → Reply → List ℕ → Afterwards
 told n r l = cond (ltb (length l) n) (afterwards too_few l) (afterwards r.code (sets l 0 r.values))
 
+-- values that are given, or the number of what refuses them
+abbrev pub values_reply : Result (List ℕ) ℕ → Reply
+values_reply (Ok vs) = given vs
+values_reply (Err n) = only n
+
+abbrev pub place_code : PlaceError → ℕ
+place_code P.WrongKind = wrong_kind
+place_code (P.Fault k) = stop_value k
+
+abbrev pub value_code : ValueError → ℕ
+value_code V.OutOfRange = out_of_range
+value_code V.WrongKind = wrong_kind
+value_code (V.Fault k) = stop_value k
+
 -- ---- each answer
 
 -- a cut one is told by 1, as bytes that end early are, and by how many are missing
-abbrev pub varuint_reply : VarUInt → Reply
-varuint_reply (Cut n) = record { code = 1; values = n ∷ [] }
-varuint_reply (Whole v n m) = given (v ∷ n ∷ truth m ∷ [])
+abbrev pub varuint_reply : Result VarUInt Cut → Reply
+varuint_reply (Ok w) = given (w.value ∷ w.length ∷ truth w.minimal ∷ [])
+varuint_reply (Err c) = record { code = 1; values = c.missing ∷ [] }
 
 -- three numbers are asked for, whatever the part holds
 abbrev pub varuint : List ℕ → List ℕ → Afterwards
 varuint s l = told 3 (varuint_reply (var_uint s)) l
 
-abbrev pub double_reply : Double → Reply
-double_reply (D.Bits b) = given (b ∷ [])
-double_reply D.OutOfRange = only out_of_range
-double_reply D.WrongKind = only wrong_kind
-double_reply (D.Fault k) = only (stop_value k)
+-- an unsigned number, or a double by its bits
+abbrev pub number_reply : Result ℕ ValueError → Reply
+number_reply (Ok n) = given (n ∷ [])
+number_reply (Err e) = only (value_code e)
 
 -- signed numbers in two's complement
-abbrev pub signed_reply : Signed → Reply
-signed_reply (I.Is z) = given (to_twos z ∷ [])
-signed_reply I.OutOfRange = only out_of_range
-signed_reply I.WrongKind = only wrong_kind
-signed_reply (I.Fault k) = only (stop_value k)
+abbrev pub signed_reply : Result ℤ ValueError → Reply
+signed_reply (Ok z) = given (to_twos z ∷ [])
+signed_reply (Err e) = only (value_code e)
 
-abbrev pub unsigned_reply : Unsigned → Reply
-unsigned_reply (U.Is n) = given (n ∷ [])
-unsigned_reply U.OutOfRange = only out_of_range
-unsigned_reply U.WrongKind = only wrong_kind
-unsigned_reply (U.Fault k) = only (stop_value k)
-
-abbrev pub ticks_reply : Ticks → Reply
-ticks_reply (K.Are z) = given (to_twos z ∷ [])
-ticks_reply K.WrongKind = only wrong_kind
-ticks_reply (K.Fault k) = only (stop_value k)
+abbrev pub ticks_reply : Result ℤ PlaceError → Reply
+ticks_reply (Ok z) = given (to_twos z ∷ [])
+ticks_reply (Err e) = only (place_code e)

@@ -2,12 +2,11 @@
 // What the calls for C and Rust answer, in numbers: a truth as 1 or 0, and an answer that is a number as the number of its case, where the lent
 // numbers then start with the case's values.
 ghost use Rattle.std.specs.Prelude.{◌≡◌};
-ghost use Rattle.number.specs.Signed.{to_twos};
 ghost use Rattle.replies.specs.Number.{truth, afterwards};
-ghost use Rattle.replies.specs.Reply.{told, varuint_reply, double_reply, signed_reply, unsigned_reply, ticks_reply};
+ghost use Rattle.replies.specs.Reply.{told, place_code, value_code, values_reply, varuint_reply, number_reply, signed_reply, ticks_reply};
 
-use number::VarUInt;
-use places::{Double, Signed, Ticks, Unsigned};
+use number::{Cut, VarUInt};
+use places::{PlaceError, ValueError};
 
 // Fewer numbers are lent than the call may answer.
 pub const TOO_FEW: u32 = 12;
@@ -23,109 +22,90 @@ pub const OUT_OF_RANGE: u32 = 7;
 pub fn number_of(t: bool) -> u32
     ensures { result ≡ truth t }
 {
-    if t { 1 } else { 0 }
+    u32::from(t)
 }
 
-// Two's complement of 64 bits.
-fn twos_of(z: i64) -> u64
-    ensures { result ≡ to_twos z }
+// Why a call on a place has no answer.
+pub fn place_code(error: PlaceError) -> u32
+    ensures { result ≡ place_code error }
 {
-    if z < 0 {
-        return 0xffffffffffffffff - ((-1 - z) as u64);
+    match error {
+        PlaceError::WrongKind => WRONG_KIND,
+        PlaceError::Fault(stop) => format::stop_value(stop),
     }
-    z as u64
+}
+
+// Why a place gives no number of the kind asked.
+fn value_code(error: ValueError) -> u32
+    ensures { result ≡ value_code error }
+{
+    match error {
+        ValueError::OutOfRange => OUT_OF_RANGE,
+        ValueError::WrongKind => WRONG_KIND,
+        ValueError::Fault(stop) => format::stop_value(stop),
+    }
+}
+
+// Values are told by 0, and stand then at the front of the lent numbers; and what is refused by its number. As many are asked for as may be told.
+pub fn told<const N: usize>(answer: Result<[u64; N], u32>, held: &mut [u64]) -> u32
+    ensures { afterwards result held.new ≡ told N (values_reply answer.entry) held.old }
+{
+    if held.len() < N {
+        return TOO_FEW;
+    }
+    match answer {
+        Ok(values) => {
+            held[..N].copy_from_slice(&values);
+            0
+        }
+        Err(code) => code,
+    }
 }
 
 // A whole VarUInt is told by its value, the bytes it takes, and 1 if it is minimal; a cut one by how many bytes are missing.
-pub fn varuint(answer: VarUInt, held: &mut [u64]) -> u32
+pub fn varuint(answer: Result<VarUInt, Cut>, held: &mut [u64]) -> u32
     ensures { afterwards result held.new ≡ told 3 (varuint_reply answer) held.old }
 {
     if held.len() < 3 {
         return TOO_FEW;
     }
     match answer {
-        VarUInt::Cut { missing } => {
-            held[0] = missing as u64;
-            1
-        }
-        VarUInt::Whole {
-            value,
-            length,
-            minimal,
-        } => {
-            held[0] = value;
-            held[1] = length as u64;
-            held[2] = number_of(minimal) as u64;
+        Ok(number) => {
+            held[0] = number.value;
+            held[1] = number.length as u64;
+            held[2] = u64::from(number.minimal);
             0
+        }
+        Err(cut) => {
+            held[0] = cut.missing as u64;
+            1
         }
     }
 }
 
-pub fn double(answer: Double, held: &mut [u64]) -> u32
-    ensures { afterwards result held.new ≡ told 1 (double_reply answer) held.old }
+// An unsigned number, or the bits of a double.
+pub fn number(answer: Result<u64, ValueError>, held: &mut [u64]) -> u32
+    ensures { afterwards result held.new ≡ told 1 (number_reply answer) held.old }
 {
-    if held.len() < 1 {
-        return TOO_FEW;
-    }
     match answer {
-        Double::Bits(bits) => {
-            held[0] = bits;
-            0
-        }
-        Double::OutOfRange => OUT_OF_RANGE,
-        Double::WrongKind => WRONG_KIND,
-        Double::Fault(stop) => format::stop_value(stop),
+        Ok(number) => told(Ok([number]), held),
+        Err(error) => told::<1>(Err(value_code(error)), held),
     }
 }
 
 // A signed number is told in two's complement.
-pub fn signed(answer: Signed, held: &mut [u64]) -> u32
+pub fn signed(answer: Result<i64, ValueError>, held: &mut [u64]) -> u32
     ensures { afterwards result held.new ≡ told 1 (signed_reply answer) held.old }
 {
-    if held.len() < 1 {
-        return TOO_FEW;
-    }
-    match answer {
-        Signed::Is(z) => {
-            held[0] = twos_of(z);
-            0
-        }
-        Signed::OutOfRange => OUT_OF_RANGE,
-        Signed::WrongKind => WRONG_KIND,
-        Signed::Fault(stop) => format::stop_value(stop),
-    }
-}
-
-pub fn unsigned(answer: Unsigned, held: &mut [u64]) -> u32
-    ensures { afterwards result held.new ≡ told 1 (unsigned_reply answer) held.old }
-{
-    if held.len() < 1 {
-        return TOO_FEW;
-    }
-    match answer {
-        Unsigned::Is(m) => {
-            held[0] = m;
-            0
-        }
-        Unsigned::OutOfRange => OUT_OF_RANGE,
-        Unsigned::WrongKind => WRONG_KIND,
-        Unsigned::Fault(stop) => format::stop_value(stop),
-    }
+    number(answer.map(|z| z.cast_unsigned()), held)
 }
 
 // Ticks are told in two's complement.
-pub fn ticks(answer: Ticks, held: &mut [u64]) -> u32
+pub fn ticks(answer: Result<i64, PlaceError>, held: &mut [u64]) -> u32
     ensures { afterwards result held.new ≡ told 1 (ticks_reply answer) held.old }
 {
-    if held.len() < 1 {
-        return TOO_FEW;
-    }
     match answer {
-        Ticks::Are(z) => {
-            held[0] = twos_of(z);
-            0
-        }
-        Ticks::WrongKind => WRONG_KIND,
-        Ticks::Fault(stop) => format::stop_value(stop),
+        Ok(ticks) => told(Ok([ticks.cast_unsigned()]), held),
+        Err(error) => told::<1>(Err(place_code(error)), held),
     }
 }

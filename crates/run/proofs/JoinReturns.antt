@@ -1,8 +1,8 @@
 -- What `join` and `is_uniform` return, case by case.
 use Prim.Native.Nat.{ℕ}
-use mathlib.Core.Path.{◌≡◌}
-use mathlib.Core.Bool.{Bool, true, false, not, ◌||◌}
-use lib.Dec.{eqb}
+use mathlib.Core.Path.{◌≡◌, refl, sym}
+use mathlib.Core.Logic.{◌⊎◌, inl, inr}
+use mathlib.Core.Bool.{Bool, true, false, ◌||◌, or-false}
 use borrow.Author.Tests.{eq-eqb, ne_eqb}
 use Rattle.run.specs.Run.{join, uniform}
 
@@ -28,10 +28,16 @@ module _ (b : Bool) (c : ℕ) where
   unfolding uniform
   uniform_mixed h = rw h
 
-  pub uniform_object : (c ≡ 0 → ⊥) → (c ≡ 255 → ⊥) → b ≡ true → true ≡ uniform b c
+  pub uniform_bare : (c ≡ 1) ⊎ ((c ≡ 12) ⊎ (c ≡ 13)) → b ≡ uniform b c
   unfolding uniform
-  uniform_object g h e = rw (e, ne_eqb c 0 g, ne_eqb c 255 h)
+  uniform_bare (inl h) = rw h (sym (or-false b))
+  uniform_bare (inr (inl h)) = rw h (sym (or-false b))
+  uniform_bare (inr (inr h)) = rw h (sym (or-false b))
 
-  pub uniform_array : (c ≡ 0 → ⊥) → (c ≡ 255 → ⊥) → b ≡ false → not ((eqb c 1 || eqb c 12) || eqb c 13) ≡ uniform b c
+  pub uniform_other : (c ≡ 0 → ⊥) → (c ≡ 255 → ⊥) → (c ≡ 1 → ⊥) → (c ≡ 12 → ⊥) → (c ≡ 13 → ⊥) → true ≡ uniform b c
   unfolding uniform
-  uniform_array g h e = rw (e, ne_eqb c 0 g, ne_eqb c 255 h)
+  uniform_other h i j k l = rw (ne_eqb c 0 h, ne_eqb c 255 i, ne_eqb c 1 j, ne_eqb c 12 k, ne_eqb c 13 l) (yes b)
+    where
+      yes : (b : Bool) → true ≡ (b || true)
+      yes true = refl
+      yes false = refl

@@ -6,17 +6,22 @@ ghost use Rattle.run.specs.Run.{join, uniform};
 
 use format::Kind;
 
+// Numbers and no enum: `join` and `uniform` (specs/Run.antt) fix them, and `packed` (crates/frames/specs/Container.antt) is told the ID as one.
+const NONE: u8 = 0;
+
+const DIFFER: u8 = 255;
+
 // One field more, by its ID.
 pub fn join(shared: u8, id: u8) -> u8
     ensures { result ≡ join shared id }
 {
-    if shared == 0 {
-        return id;
+    if shared == NONE {
+        id
+    } else if shared == id {
+        shared
+    } else {
+        DIFFER
     }
-    if shared == id {
-        return shared;
-    }
-    255
 }
 
 // One field more, by its kind.
@@ -26,18 +31,13 @@ pub fn add(shared: u8, kind: Kind) -> u8
     join(shared, format::id_of(kind))
 }
 
-// Whether such fields make a container uniform: an object if they have names, else an array.
+// Whether such fields make a container uniform: an object if they have names, else an array, but not one of a kind without payload.
 pub fn is_uniform(named: bool, shared: u8) -> bool
     ensures { result ≡ uniform named shared }
 {
-    if shared == 0 {
-        return false;
+    match shared {
+        NONE | DIFFER => false,
+        1 | 12 | 13 => named,
+        _ => true,
     }
-    if shared == 255 {
-        return false;
-    }
-    if named {
-        return true;
-    }
-    !((shared == 1) | (shared == 12) | (shared == 13))
 }

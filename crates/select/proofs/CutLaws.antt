@@ -1,27 +1,25 @@
 -- A full table is cut: it is arranged, what begins at the first twin or behind it goes, and then the upper half, if more than half is left.
 use Prim.Native.Nat.{ℕ, suc, ◌+◌, ◌-◌, ◌*◌, ◌/◌, ◌≤◌, ◌<◌}
 use native.Mathlib.Omega.{arith}
-use mathlib.Core.Path.{◌≡◌, ap, ◌∙◌}
+use mathlib.Core.Path.{◌≡◌, ap, ◌∙◌, sym}
 use mathlib.Core.Bool.{Bool, true, false, cond}
 use mathlib.Core.List.{List, [], ◌∷◌, ◌++◌, append_assoc}
 use lib.ListN.{length, take, drop, get_or, replicate, length-append, length-drop, length-replicate}
 use lib.Seq.{take_at, length-take-le, get_or-take, take-take}
 use lib.Dec.{ltb}
 use borrow.Author.Tests.{le-ltb}
+use Rattle.std.proofs.Common.{Option, None, Some}
 use Rattle.number.proofs.Clash.{clash}
 use Rattle.order.specs.declared.Arranged.{Arranged}
-use Rattle.order.specs.declared.Arranged.TheVariants as A
 use Rattle.entries.specs.Entry.{begin_in, name_in}
 use Rattle.entries.specs.Least.{lesser, least}
-use Rattle.order.specs.Arranged.{before, kept, ordered, Afterwards, afterwards, settled, arranged}
+use Rattle.order.specs.Arranged.{before, kept, ordered, Afterwards, afterwards, done, settled, arranged}
 use Rattle.entries.specs.Among.{In}
 use Rattle.order.specs.Sorted.{Sorted}
 use Rattle.entries.proofs.Perms.{perm_in, perm_back}
 use Rattle.order.proofs.SortedLaws.{ordered_sorted, ordered_perm, ordered_length}
 use Rattle.entries.proofs.LeastLaws.{same_named, one_begin, lesser_left, lesser_right, lesser_both, least_more}
 use Rattle.order.proofs.KeptLaws.{kept_in, kept_before, kept_has, kept_once}
-use Rattle.select.specs.declared.Bound.{Bound}
-use Rattle.select.specs.declared.Bound.TheVariants as B
 use Rattle.select.specs.declared.Pass.{Pass}
 use Rattle.select.specs.Passes.{Covered, Standing}
 use Rattle.select.proofs.RangeLaws.{up_trans, Wanted, wanted_is, is_wanted}
@@ -40,13 +38,21 @@ before_few p (e ∷ t) = go (ltb (begin_in e) p) (before_few p t)
 
 -- ---- a table that is arranged
 
-module _ (s t : List ℕ) (n : ℕ) (few : n ≤ length t / 2) (a : Arranged) (t' : List ℕ) (e : afterwards a t' ≡ arranged s t n) where
-  done_is : afterwards a t' ≡ afterwards (A.Done (length (kept s (take n t))) (least s (take n t))) (settled s (take n t) (2 * n) ++ drop (2 * n) t)
+abbrev count_of : Option Arranged → ℕ
+count_of None = 0
+count_of (Some g) = g.count
+
+abbrev place_of : Option Arranged → ℕ
+place_of None = 0
+place_of (Some g) = g.least
+
+module _ (s t : List ℕ) (n : ℕ) (few : n ≤ length t / 2) (a : Option Arranged) (t' : List ℕ) (e : afterwards a t' ≡ arranged s t n) where
+  done_is : afterwards a t' ≡ afterwards (done (length (kept s (take n t))) (least s (take n t))) (settled s (take n t) (2 * n) ++ drop (2 * n) t)
   unfolding arranged
   done_is = e ∙ rw (le-ltb (length t / 2) n few)
 
-  pub never_full : {X : Type 0} → a ≡ A.NoRoom → X
-  never_full h = let z : a ≡ A.Done (length (kept s (take n t))) (least s (take n t)) = ap (λ (w : Afterwards). w.answer) done_is in clash cc
+  pub never_full : {X : Type 0} → a ≡ None → X
+  never_full h = let z : a ≡ done (length (kept s (take n t))) (least s (take n t)) = ap (λ (w : Afterwards). w.answer) done_is in clash cc
 
   held_is : t' ≡ settled s (take n t) (2 * n) ++ drop (2 * n) t
   held_is = ap (λ (w : Afterwards). w.held) done_is
@@ -64,12 +70,12 @@ module _ (s t : List ℕ) (n : ℕ) (few : n ≤ length t / 2) (a : Arranged) (t
       sum : (k n m : ℕ) → k ≤ n → 2 * n ≤ m → k + (2 * n - k) + (m - 2 * n) ≡ m
       sum k n m l h = omega arith
 
-  module _ (k l : ℕ) (h : a ≡ A.Done k l) where
+  module _ (k l : ℕ) (h : a ≡ done k l) where
     pub count_is : k ≡ length (kept s (take n t))
-    count_is = let z : a ≡ A.Done (length (kept s (take n t))) (least s (take n t)) = ap (λ (w : Afterwards). w.answer) done_is in cc
+    count_is = let z : a ≡ done (length (kept s (take n t))) (least s (take n t)) = ap (λ (w : Afterwards). w.answer) done_is in ap count_of (sym h ∙ z)
 
     pub least_is : l ≡ least s (take n t)
-    least_is = let z : a ≡ A.Done (length (kept s (take n t))) (least s (take n t)) = ap (λ (w : Afterwards). w.answer) done_is in cc
+    least_is = let z : a ≡ done (length (kept s (take n t))) (least s (take n t)) = ap (λ (w : Afterwards). w.answer) done_is in ap place_of (sym h ∙ z)
 
     pub count_few : k ≤ n
     count_few = rw count_is kept_few
@@ -104,7 +110,7 @@ module _ (s t : List ℕ) (n : ℕ) (few : n ≤ length t / 2) (a : Arranged) (t
       sooner_too : stop ≤ l
       sooner_too = rw stop_is (lesser_right p.stop l)
 
-      module _ (es ws : List ℕ) (low : Bound) (st : Standing s es ws low t p) where
+      module _ (es ws : List ℕ) (low : Option ℕ) (st : Standing s es ws low t p) where
         met : (e : ℕ) → In e (take n t) → In e ws × Wanted s low p.high p.stop e
         met e i = let w = st.holds.there e (rw n_is i) in (w.0, wanted_is s low p.high p.stop e w.1)
 
@@ -167,7 +173,7 @@ module _ (s t : List ℕ) (n : ℕ) (few : n ≤ length t / 2) (a : Arranged) (t
           last_wanted : Wanted s low p.high p.stop (get_or (take k t') j 0)
           last_wanted = (met (get_or (take k t') j 0) last_in).1
 
-          halved : Standing s es ws low t' (record { high = B.At (get_or (take k t') j 0); count = suc j; stop = stop })
+          halved : Standing s es ws low t' (record { high = Some (get_or (take k t') j 0); count = suc j; stop = stop })
           halved =
               record {
                 inside = st.inside;
@@ -180,7 +186,7 @@ module _ (s t : List ℕ) (n : ℕ) (few : n ≤ length t / 2) (a : Arranged) (t
                           let g = taken_in e q.0 in
                           let w = met e g.0 in (
                             w.0,
-                            is_wanted s low (B.At (get_or (take k t') j 0)) stop e
+                            is_wanted s low (Some (get_or (take k t') j 0)) stop e
                                 (record {
                                   begins = rw stop_is (lesser_both (suc (begin_in e)) p.stop l w.1.begins g.1);
                                   over = w.1.over;
@@ -189,7 +195,7 @@ module _ (s t : List ℕ) (n : ℕ) (few : n ≤ length t / 2) (a : Arranged) (t
                                 }),
                           );
                       all = λ e i v.
-                          let w = wanted_is s low (B.At (get_or (take k t') j 0)) stop e v in
+                          let w = wanted_is s low (Some (get_or (take k t') j 0)) stop e v in
                           let u = up_trans s p.high (get_or (take k t') j 0) e w.under last_wanted.under in
                           let g = in_taken e (found e i (record { begins = omega (arith, w.begins, sooner); over = w.over; under = u }))
                           (omega (arith, w.begins, sooner_too)) in
@@ -198,5 +204,5 @@ module _ (s t : List ℕ) (n : ℕ) (few : n ≤ length t / 2) (a : Arranged) (t
                 reached = (st.inside (get_or (take k t') j 0) (met (get_or (take k t') j 0) last_in).0, last_wanted.over);
               }
 
-          pub cut_half : Standing s es ws low t' (record { high = B.At (get_or t' j 0); count = suc j; stop = stop })
+          pub cut_half : Standing s es ws low t' (record { high = Some (get_or t' j 0); count = suc j; stop = stop })
           cut_half = rw (get_or-take k t' j 0 less) at halved

@@ -1,4 +1,5 @@
 -- A table that is filled with all names, and what comes of it.
+use Rattle.std.specs.Prelude.{Some, Option, None}
 use Prim.Native.Nat.{ℕ, zero, suc, ◌+◌, ◌-◌, ◌≤◌, ◌<◌}
 use native.Mathlib.Omega.{arith}
 use native.Mathlib.Numerals.{add-one}
@@ -9,21 +10,17 @@ use lib.ListN.{length, take, drop, set, replicate, length-append, length-set, dr
 use lib.Seq.{take-suc-set, take_all, take_at, drop-set-lt, drop-drop}
 use lib.Dec.{ltb, leb}
 use borrow.Author.Tests.{le-leb, lt-leb, le-ltb, ltb-true, ltb-false, leb-true, leb-false}
-use Rattle.number.proofs.Clash.{clash}
-use Rattle.names.specs.declared.Name.{Name}
-use Rattle.names.specs.declared.Name.TheVariants as N
+use Rattle.std.proofs.Common.{Option, None, Some}
+use Rattle.std.specs.Option.{unwrap_or}
 use Rattle.entries.specs.Entry.{entry_of}
 use Rattle.entries.proofs.EntryLaws.{entry_begins, entry_length, entry_crossed, entry_outside, entry_long}
-use Rattle.divide.specs.declared.Divided.{Divided}
-use Rattle.divide.specs.declared.Divided.TheVariants as D
 use Rattle.tables.specs.Fit.{fits, all_fit}
 use Rattle.divide.specs.Divided.{Afterwards, afterwards, divided}
 use Rattle.select.specs.declared.Source.{Source}
-use Rattle.select.specs.declared.Filled.{Filled}
-use Rattle.select.specs.declared.Filled.TheVariants as F
 use Rattle.select.specs.Source.{named_at, entries_after, entries_from, entries_of, first_twin, zeroed, Searched, searched}
 use Rattle.select.specs.Passes.{Fills}
 use Rattle.select.proofs.WalkLaws.{Walked, walk_starts, walk_ends, walk_stops, walk_on, walk_less}
+use Rattle.names.specs.declared.Name.{Name}
 
 -- ---- every entry of a source fits
 
@@ -48,9 +45,9 @@ unfolding entries_from all_fit
 entries_fit o s zero a = refl
 entries_fit o s (suc k) a = go (named_at o a s) (λ n. entries_fit o s k n)
   where
-    go : (y : Name) → ((n : ℕ) → all_fit s (entries_from o s k n) ≡ true) → all_fit s (entries_after s y (λ n. entries_from o s k n)) ≡ true
-    go N.Nothing f = refl
-    go (N.At b e n) f = rw (entry_fits s b e) (f n)
+    go : (y : Option Name) → ((n : ℕ) → all_fit s (entries_from o s k n) ≡ true) → all_fit s (entries_after s y (λ n. entries_from o s k n)) ≡ true
+    go None f = refl
+    go (Some p) f = rw (entry_fits s p.begin p.end) (f p.next)
 
 -- ---- the loop
 
@@ -70,39 +67,39 @@ module _ (o : Source) (s t₀ t : List ℕ) (at n : ℕ) (w : Filling o s t₀ t
   pub fill_kept : length t ≡ length t₀
   fill_kept = w.kept
 
-  filled : entries_of o s ≡ w.met → Fills (entries_of o s) t₀ t (F.All n)
+  filled : entries_of o s ≡ w.met → Fills (entries_of o s) t₀ t (Some n)
   filled e = (w.number ∙ ap length (sym e), w.kept, w.room, w.front ∙ sym e, w.rest)
 
-  pub fill_ends : length s ≤ at → Fills (entries_of o s) t₀ t (F.All n)
+  pub fill_ends : length s ≤ at → Fills (entries_of o s) t₀ t (Some n)
   fill_ends l = filled (walk_ends o s w.met at w.walked l)
 
-  module _ (x : Name) (e : x ≡ named_at o at s) where
-    pub fill_stops : x ≡ N.Nothing → Fills (entries_of o s) t₀ t (F.All n)
+  module _ (x : Option Name) (e : x ≡ named_at o at s) where
+    pub fill_stops : x ≡ None → Fills (entries_of o s) t₀ t (Some n)
     fill_stops h = filled (walk_stops o s w.met at w.walked x e h)
 
-    module _ (l : at < length s) (b f m : ℕ) (h : x ≡ N.At b f m) where
-      on : Walked o s (w.met ++ (entry_of s b f ∷ [])) m
-      on = walk_on o s w.met at w.walked x e l b f m h
+    module _ (l : at < length s) (p : Name) (h : x ≡ Some p) where
+      on : Walked o s (w.met ++ (entry_of s p.begin p.end ∷ [])) p.next
+      on = walk_on o s w.met at w.walked x e l p h
 
-      pub fill_less : length s - m < length s - at
-      fill_less = walk_less o s w.met at w.walked x e l b f m h
+      pub fill_less : length s - p.next < length s - at
+      fill_less = walk_less o s w.met at w.walked x e l p h
 
-      pub fill_more : length t ≤ n → Fills (entries_of o s) t₀ t F.More
+      pub fill_more : length t ≤ n → Fills (entries_of o s) t₀ t None
       fill_more k =
-          let z : length (entries_of o s) ≡ length w.met + 1 + length (entries_from o s on.fuel m) =
-          ap length on.whole ∙ length-append (w.met ++ (entry_of s b f ∷ [])) (entries_from o s on.fuel m)
-          ∙ ap (λ (y : ℕ). y + length (entries_from o s on.fuel m)) (length-append w.met (entry_of s b f ∷ [])) in
+          let z : length (entries_of o s) ≡ length w.met + 1 + length (entries_from o s on.fuel p.next) =
+          ap length on.whole ∙ length-append (w.met ++ (entry_of s p.begin p.end ∷ [])) (entries_from o s on.fuel p.next)
+          ∙ ap (λ (y : ℕ). y + length (entries_from o s on.fuel p.next)) (length-append w.met (entry_of s p.begin p.end ∷ [])) in
           let q : n ≡ length t₀ = omega (arith, w.kept, w.room) in
           (omega (arith, z, w.number, w.kept), w.kept, sym (take_all n t k) ∙ w.front ∙ sym (rw (← q) front_is))
         where
           front_is : take n (entries_of o s) ≡ w.met
           front_is = ap (take n) w.walked.whole ∙ take_at w.met (entries_from o s w.walked.fuel at) n (sym w.number)
 
-      pub fill_on : n < length t → (y : ℕ) → y ≡ entry_of s b f → Filling o s t₀ (set t n y) m (n + 1)
+      pub fill_on : n < length t → (y : ℕ) → y ≡ entry_of s p.begin p.end → Filling o s t₀ (set t n y) p.next (n + 1)
       fill_on k y i = record {
-        met = w.met ++ (entry_of s b f ∷ []);
+        met = w.met ++ (entry_of s p.begin p.end ∷ []);
         walked = on;
-        number = omega (arith, w.number, length-append w.met (entry_of s b f ∷ []));
+        number = omega (arith, w.number, length-append w.met (entry_of s p.begin p.end ∷ []));
         room = omega (arith, w.kept);
         kept = length-set t n y ∙ w.kept;
         front = rw (add-one n, take-suc-set t n y k, w.front, i);
@@ -120,42 +117,36 @@ cleared t t' t'' l e = e ∙ ap (λ (n : ℕ). replicate n 0) l
 pub zeros_all : (t : List ℕ) → replicate (length t) 0 ≡ zeroed (length t) t
 zeros_all t = sym (ap (λ (u : List ℕ). replicate (length t) 0 ++ u) (drop_of_length-le t {i = length t} (omega arith)) ∙ append-nil (replicate (length t) 0))
 
-module _ (o : Source) (s t t₁ : List ℕ) (x : Filled) (w : Fills (entries_of o s) t t₁ x) where
-  pub filled_front : x ≡ F.More → t₁ ≡ take (length t₁) (entries_of o s)
+module _ (o : Source) (s t t₁ : List ℕ) (x : Option ℕ) (w : Fills (entries_of o s) t t₁ x) where
+  pub filled_front : x ≡ None → t₁ ≡ take (length t₁) (entries_of o s)
   filled_front h = go (rw h at w)
     where
-      go : Fills (entries_of o s) t t₁ F.More → t₁ ≡ take (length t₁) (entries_of o s)
+      go : Fills (entries_of o s) t t₁ None → t₁ ≡ take (length t₁) (entries_of o s)
       go v = v.2 ∙ ap (λ (n : ℕ). take n (entries_of o s)) (sym v.1)
 
-  pub passed : x ≡ F.More → (r : ℕ) → r ≡ first_twin o s → (t₂ : List ℕ) → t₂ ≡ replicate (length t₁) 0
+  pub passed : x ≡ None → (r : ℕ) → r ≡ first_twin o s → (t₂ : List ℕ) → t₂ ≡ replicate (length t₁) 0
       → ◌≡◌ {A = Searched} (record { answer = r; table = t₂ }) (searched o s t)
   unfolding searched
   passed h r e t₂ i = go (rw h at w)
     where
-      go : Fills (entries_of o s) t t₁ F.More → ◌≡◌ {A = Searched} (record { answer = r; table = t₂ }) (searched o s t)
+      go : Fills (entries_of o s) t t₁ None → ◌≡◌ {A = Searched} (record { answer = r; table = t₂ }) (searched o s t)
       go v = rw (e, i, v.1, lt-leb (length (entries_of o s)) (length t) v.0)
           (ap (λ (u : List ℕ). record { answer = first_twin o s; table = u }) (zeros_all t))
 
-  module _ (n : ℕ) (h : x ≡ F.All n) (y : Divided) (t₂ : List ℕ) (e : ◌≡◌ {A = Afterwards} (record { answer = y; table = t₂ }) (divided s t₁ n)) where
-    all : Fills (entries_of o s) t t₁ (F.All n)
+  module _ (n : ℕ) (h : x ≡ Some n) (y : Option ℕ) (t₂ : List ℕ) (e : ◌≡◌ {A = Afterwards} (record { answer = y; table = t₂ }) (divided s t₁ n)) where
+    all : Fills (entries_of o s) t t₁ (Some n)
     all = rw h at w
 
-    unfolding_divided : divided s t₁ n ≡ afterwards (D.Done (first_twin o s)) (zeroed n t)
+    unfolding_divided : divided s t₁ n ≡ afterwards (Some (first_twin o s)) (zeroed n t)
     unfolding divided first_twin
     unfolding_divided =
         let v = all in
         rw (le-ltb (length t₁) n (omega (arith, v.1, v.2)), v.3, entries_fit o s (length s) 0, v.4)
 
-    pub divided_done : (r : ℕ) → y ≡ D.Done r → ◌≡◌ {A = Searched} (record { answer = r; table = t₂ }) (searched o s t)
+    pub divided_done : (r : ℕ) → r ≡ unwrap_or y 0 → ◌≡◌ {A = Searched} (record { answer = r; table = t₂ }) (searched o s t)
     unfolding searched
     divided_done r q =
         let v = all in
-        let z : D.Done r ≡ D.Done (first_twin o s) = sym q ∙ ap (λ (u : Afterwards). u.answer) (e ∙ unfolding_divided) in
-        let a : r ≡ first_twin o s = cc in
+        let a : r ≡ first_twin o s = q ∙ ap (λ (u : Afterwards). unwrap_or u.answer 0) (e ∙ unfolding_divided) in
         let b : t₂ ≡ zeroed n t = ap (λ (u : Afterwards). u.table) (e ∙ unfolding_divided) in
         rw (a, b, ← v.0, le-leb n (length t) v.2)
-
-    pub divided_unfit : (r : ℕ) → y ≡ D.Unfit → ◌≡◌ {A = Searched} (record { answer = r; table = t₂ }) (searched o s t)
-    divided_unfit r q =
-        let z : D.Unfit ≡ D.Done (first_twin o s) = sym q ∙ ap (λ (u : Afterwards). u.answer) (e ∙ unfolding_divided) in
-        clash cc

@@ -1,4 +1,5 @@
 -- Each entry of a source begins behind the one before it. So a twin among the first of them is the first of all.
+use Rattle.std.specs.Prelude.{Some, Option, None}
 use Prim.Native.Nat.{ℕ, zero, suc, ◌+◌, ◌≤◌, ◌<◌}
 use native.Mathlib.Omega.{arith}
 use mathlib.Core.Path.{◌≡◌, refl, ◌∙◌}
@@ -7,8 +8,6 @@ use mathlib.Core.List.{List, [], ◌∷◌, ◌++◌}
 use lib.ListN.{length}
 use lib.Dec.{ltb, leb}
 use borrow.Author.Tests.{le-leb, leb-true, leb-false}
-use Rattle.names.specs.declared.Name.{Name}
-use Rattle.names.specs.declared.Name.TheVariants as N
 use Rattle.entries.specs.Entry.{begin_in, entry_of}
 use Rattle.entries.specs.Least.{is_first, least}
 use Rattle.entries.specs.Among.{In, here, there}
@@ -20,6 +19,7 @@ use Rattle.select.specs.Source.{named_at, entries_after, entries_from, entries_o
 use Rattle.select.proofs.HalfLaws.{none_in, in_first, in_either, in_right}
 use Rattle.select.proofs.WalkLaws.{lead_of, named_on}
 use Rattle.select.proofs.TwinLaws.{Ascends, ascends_less, ascends_in}
+use Rattle.names.specs.declared.Name.{Name}
 
 -- ---- a front part
 
@@ -49,13 +49,13 @@ unfolding entries_from
 entries_ascend o s short zero a i = tt
 entries_ascend o s short (suc k) a i = go (named_at o a s) refl (λ n c. entries_ascend o s short k n c)
   where
-    go : (y : Name) → named_at o a s ≡ y → ((n : ℕ) → n ≤ length s → Ascends (lead_of o + n) (entries_from o s k n))
+    go : (y : Option Name) → named_at o a s ≡ y → ((n : ℕ) → n ≤ length s → Ascends (lead_of o + n) (entries_from o s k n))
         → Ascends (lead_of o + a) (entries_after s y (λ n. entries_from o s k n))
-    go N.Nothing h f = tt
-    go (N.At b e n) h f =
-        let p = named_on o s a b e n i h in
-        let g = entry_begins s b e p.ordered (omega (arith, p.before, p.inside)) short in
-        (rw g p.behind, rw g (ascends_less (lead_of o + n) (suc b) (entries_from o s k n) (omega (arith, p.apart)) (f n p.inside)))
+    go None h f = tt
+    go (Some p) h f =
+        let m = named_on o s a p i h in
+        let g = entry_begins s p.begin p.end m.ordered (omega (arith, m.before, m.inside)) short in
+        (rw g m.behind, rw g (ascends_less (lead_of o + p.next) (suc p.begin) (entries_from o s k p.next) (omega (arith, m.apart)) (f p.next m.inside)))
 
 -- a part too long for entries has none that is not 0
 entry_none : (s : List ℕ) (b e : ℕ) → 16777216 ≤ length s → entry_of s b e ≡ 0
@@ -72,9 +72,9 @@ unfolding entries_from
 entries_none o s long zero a x i = none_in x [] i refl
 entries_none o s long (suc k) a x i = go (named_at o a s) (λ n j. entries_none o s long k n x j) i
   where
-    go : (y : Name) → ((n : ℕ) → In x (entries_from o s k n) → x ≡ 0) → In x (entries_after s y (λ n. entries_from o s k n)) → x ≡ 0
-    go N.Nothing f i = none_in x [] i refl
-    go (N.At b e n) f i = in_first x (entry_of s b e) (entries_from o s k n) i (λ d. d ∙ entry_none s b e long) (f n)
+    go : (y : Option Name) → ((n : ℕ) → In x (entries_from o s k n) → x ≡ 0) → In x (entries_after s y (λ n. entries_from o s k n)) → x ≡ 0
+    go None f i = none_in x [] i refl
+    go (Some p) f i = in_first x (entry_of s p.begin p.end) (entries_from o s k p.next) i (λ d. d ∙ entry_none s p.begin p.end long) (f p.next)
 
 pub front_twin : (o : Source) (s xs ys : List ℕ) → entries_of o s ≡ xs ++ ys → least s xs < 16777216 → least s xs ≡ first_twin o s
 unfolding first_twin

@@ -7,12 +7,11 @@ use mathlib.Core.List.{List, [], ◌∷◌, ◌++◌}
 use lib.ListN.{length, take, drop, replicate, length-replicate, take-append-drop}
 use lib.Seq.{take-length}
 use borrow.Author.Tests.{le-ltb}
+use Rattle.std.proofs.Common.{Option, None, Some}
 use Rattle.number.proofs.Clash.{clash}
 use Rattle.text.proofs.Laws.{and_both}
 use Rattle.entries.specs.Least.{least}
 use Rattle.tables.specs.Fit.{fits, all_fit}
-use Rattle.divide.specs.declared.Divided.{Divided}
-use Rattle.divide.specs.declared.Divided.TheVariants as D
 use Rattle.divide.specs.Divided.{Afterwards, afterwards, divided}
 use Rattle.select.specs.declared.Source.{Source}
 use Rattle.select.specs.Source.{entries_of, first_twin}
@@ -31,25 +30,25 @@ module _ (o : Source) (s t : List ℕ) (w : t ≡ take (length t) (entries_of o 
   all_fit_law : all_fit s t ≡ true
   all_fit_law = front_fits s t (drop (length t) (entries_of o s)) (rw (← parts) (entries_fit o s (length s) 0))
 
-  module _ (y : Divided) (t₁ : List ℕ) (e : ◌≡◌ {A = Afterwards} (record { answer = y; table = t₁ }) (divided s t (length t))) where
-    divided_is : divided s t (length t) ≡ afterwards (D.Done (least s t)) (replicate (length t) 0)
+  module _ (y : Option ℕ) (t₁ : List ℕ) (e : ◌≡◌ {A = Afterwards} (record { answer = y; table = t₁ }) (divided s t (length t))) where
+    divided_is : divided s t (length t) ≡ afterwards (Some (least s t)) (replicate (length t) 0)
     unfolding divided
     divided_is =
         rw (le-ltb (length t) (length t) (omega arith), take-length t, all_fit_law)
-        (ap (λ (u : List ℕ). afterwards (D.Done (least s t)) u) (sym (zeros_all t)))
+        (ap (λ (u : List ℕ). afterwards (Some (least s t)) u) (sym (zeros_all t)))
 
-    answer_is : y ≡ D.Done (least s t)
+    answer_is : y ≡ Some (least s t)
     answer_is = ap (λ (u : Afterwards). u.answer) (e ∙ divided_is)
 
     pub front_cleared : t₁ ≡ replicate (length t) 0
     front_cleared = ap (λ (u : Afterwards). u.table) (e ∙ divided_is)
 
-    pub front_unfit : (r : ℕ) → y ≡ D.Unfit → r ≡ first_twin o s
-    front_unfit r q = let z : D.Unfit ≡ D.Done (least s t) = sym q ∙ answer_is in clash cc
+    pub front_unfit : (r : ℕ) → y ≡ None → r ≡ first_twin o s
+    front_unfit r q = let z : None ≡ Some (least s t) = sym q ∙ answer_is in clash cc
 
-    pub front_found : (r : ℕ) → y ≡ D.Done r → r < 16777216 → r ≡ first_twin o s
+    pub front_found : (r : ℕ) → y ≡ Some r → r < 16777216 → r ≡ first_twin o s
     front_found r q l =
-        let z : D.Done r ≡ D.Done (least s t) = sym q ∙ answer_is in
+        let z : Some r ≡ Some (least s t) = sym q ∙ answer_is in
         let a : r ≡ least s t = cc in
         a ∙ front_twin o s t (drop (length t) (entries_of o s)) parts (omega arith)
 

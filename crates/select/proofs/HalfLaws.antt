@@ -5,6 +5,7 @@ use mathlib.Core.Bool.{true}
 use mathlib.Core.List.{List, [], ◌∷◌, ◌++◌, append_assoc}
 use lib.ListN.{length, take, drop, get_or}
 use lib.Seq.{split_at, take-suc}
+use Rattle.std.proofs.Common.{Some}
 use Rattle.number.proofs.Clash.{clash}
 use Rattle.entries.specs.Entry.{name_in}
 use Rattle.entries.specs.Among.{In, here, there}
@@ -13,7 +14,6 @@ use Rattle.compare.proofs.OrderLaws.{Upto, less, same, upto_is, order_not, order
 use Rattle.order.proofs.SortedLaws.{below_in}
 use Rattle.entries.proofs.Perms.{in_left, in_last, in_cases}
 use Rattle.order.proofs.NeighbourLaws.{sorted_last, sorted_left}
-use Rattle.select.specs.declared.Bound.TheVariants as B
 use Rattle.select.specs.Range.{up_to}
 use Rattle.select.proofs.RangeLaws.{up_cases, up_less, up_same}
 
@@ -63,18 +63,18 @@ module _ (s os : List ℕ) (sorted : Sorted s os) (once : (x y : ℕ) → In x o
   pub half_last : In y os
   half_last = in_whole y (in_last (take h os) y)
 
-  up_of : (e : ℕ) → Upto s e y → up_to s (B.At y) e ≡ true
+  up_of : (e : ℕ) → Upto s e y → up_to s (Some y) e ≡ true
   up_of e (less k) = up_less s y e k
   up_of e (same d k) = up_same s y e d
 
-  pub half_there : (e : ℕ) → In e (take (suc h) os) → In e os × (up_to s (B.At y) e ≡ true)
+  pub half_there : (e : ℕ) → In e (take (suc h) os) → In e os × (up_to s (Some y) e ≡ true)
   half_there e i =
       let j : In e (take h os ++ (y ∷ [])) = rw front at i in (
         in_whole e j,
         in_cases e (take h os) y j (λ k. up_of e (sorted_last s (take h os) y ends e k)) (λ d. up_same s y e (ap (name_in s) d)),
       )
 
-  pub half_all : (e : ℕ) → In e os → up_to s (B.At y) e ≡ true → In e (take (suc h) os)
+  pub half_all : (e : ℕ) → In e os → up_to s (Some y) e ≡ true → In e (take (suc h) os)
   half_all e i u =
       let j : In e (take h os ++ (y ∷ drop (suc h) os)) = rw halves at i in
       in_either e (take h os) (y ∷ drop (suc h) os) j (λ k. rw front (in_left (take h os) (y ∷ []) k)) behind

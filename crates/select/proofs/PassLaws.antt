@@ -9,30 +9,29 @@ use lib.ListN.{length, take, set, length-set}
 use lib.Seq.{take-suc-set}
 use lib.Dec.{ltb}
 use borrow.Author.Tests.{ltb-true, ltb-false}
+use Rattle.std.proofs.Common.{Option, None, Some}
+use Rattle.std.specs.declared.cmp.Ordering.{Ordering}
+use Rattle.std.specs.declared.cmp.Ordering.TheVariants.{Less, Equal, Greater}
+use Rattle.std.specs.Ordering.{is_gt}
 use Rattle.number.proofs.Clash.{clash}
-use Rattle.compare.specs.declared.Order.{Order}
-use Rattle.compare.specs.declared.Order.TheVariants as O
 use Rattle.order.specs.declared.Arranged.{Arranged}
-use Rattle.order.specs.declared.Arranged.TheVariants as A
 use Rattle.entries.specs.Entry.{begin_in, name_in}
 use Rattle.entries.specs.Least.{is_first, lesser, least}
-use Rattle.order.specs.Arranged.{afterwards, arranged}
+use Rattle.order.specs.Arranged.{afterwards, done, arranged}
 use Rattle.entries.specs.Among.{In, here, there}
 use Rattle.compare.specs.Order.{order}
 use Rattle.compare.proofs.OrderLaws.{order_same, order_refl, order_flip, order_trans, order_not}
 use Rattle.entries.proofs.LeastLaws.{first_is, lesser_left, lesser_right, lesser_both, least_bound, least_over_law, least_pair, least_more}
 use Rattle.entries.proofs.Perms.{in_left, in_last, in_cases}
-use Rattle.select.specs.declared.Bound.{Bound}
-use Rattle.select.specs.declared.Bound.TheVariants as B
 use Rattle.select.specs.declared.Pass.{Pass}
-use Rattle.select.specs.Range.{is_more, above, up_to, wanted}
+use Rattle.select.specs.Range.{above, up_to, wanted}
 use Rattle.select.specs.Passes.{Covered, Settled, Standing, Cuts, Adds}
 use Rattle.select.proofs.RangeLaws.{is_up_to, same_above, same_up, is_wanted}
 use Rattle.select.proofs.CutLaws.{least_is}
 
 -- ---- one entry more
 
-module _ (s t : List ℕ) (low : Bound) (x : ℕ) (p : Pass) where
+module _ (s t : List ℕ) (low : Option ℕ) (x : ℕ) (p : Pass) where
   pub put_out : wanted s low p.high p.stop x ≡ false → Adds s t t low x p p
   put_out h =
       record {
@@ -80,14 +79,14 @@ module _ (s t : List ℕ) (low : Bound) (x : ℕ) (p : Pass) where
         }
 
 -- a cut, and then one entry more
-pub add_cut : (s t t₁ t₂ : List ℕ) (low : Bound) (x : ℕ) (p p₁ p₂ : Pass) → Cuts s t t₁ p p₁ → Adds s t₁ t₂ low x p₁ p₂ → Adds s t t₂ low x p p₂
+pub add_cut : (s t t₁ t₂ : List ℕ) (low : Option ℕ) (x : ℕ) (p p₁ p₂ : Pass) → Cuts s t t₁ p p₁ → Adds s t₁ t₂ low x p₁ p₂ → Adds s t t₂ low x p p₂
 add_cut s t t₁ t₂ low x p p₁ p₂ c a = record { kept = a.kept ∙ c.kept; is = λ es ws i st. a.is es ws i (c.is es ws low st) }
 
 -- ---- all names were met
 
-module _ (s es t : List ℕ) (low : Bound) (p : Pass) (st : Standing s es es low t p) (a : Arranged) (t' : List ℕ)
+module _ (s es t : List ℕ) (low : Option ℕ) (p : Pass) (st : Standing s es es low t p) (a : Option Arranged) (t' : List ℕ)
     (e : afterwards a t' ≡ arranged s t p.count)
-    (k l : ℕ) (h : a ≡ A.Done k l) (stop : ℕ) (stop_is : stop ≡ lesser p.stop l) where
+    (k l : ℕ) (h : a ≡ done k l) (stop : ℕ) (stop_is : stop ≡ lesser p.stop l) where
   l_is : l ≡ least s (take p.count t)
   l_is = least_is s t p.count st.holds.few a t' e k l h
 
@@ -124,64 +123,64 @@ module _ (s es t : List ℕ) (low : Bound) (p : Pass) (st : Standing s es es low
 
 -- ---- the passes
 
-pub first_pass : (s es : List ℕ) → Covered s es B.Open 16777216
+pub first_pass : (s es : List ℕ) → Covered s es None 16777216
 first_pass s es = record { bound = omega arith; late = least_bound s es; done = λ x e i j f o. clash cc }
 
-pub next_pass : (s es : List ℕ) (y stop : ℕ) → Settled s es (B.At y) stop → Covered s es (B.At y) stop
+pub next_pass : (s es : List ℕ) (y stop : ℕ) → Settled s es (Some y) stop → Covered s es (Some y) stop
 next_pass s es y stop w = record { bound = w.bound; late = w.late; done = λ x e i j f o. w.done x e i j f (is_up_to s y e o) }
 
-pub last_pass : (s es : List ℕ) (stop : ℕ) → Settled s es B.Open stop → stop ≡ least s es
+pub last_pass : (s es : List ℕ) (stop : ℕ) → Settled s es None stop → stop ≡ least s es
 last_pass s es stop w = omega (arith, w.late, least_over_law s es stop w.bound (λ e x i j f. w.done x e j i f refl))
 
 -- ---- each pass leaves fewer names
 
-unfoldable pub left : List ℕ → Bound → List ℕ → ℕ
+unfoldable pub left : List ℕ → Option ℕ → List ℕ → ℕ
 left s low [] = 0
 left s low (e ∷ es) = cond (above s low e) (suc (left s low es)) (left s low es)
 
-order_back : (m n : List ℕ) → order n m ≡ O.Less → order m n ≡ O.More
+order_back : (m n : List ℕ) → order n m ≡ Less → order m n ≡ Greater
 order_back m n h = go (order m n) refl
   where
-    go : (o : Order) → order m n ≡ o → order m n ≡ O.More
-    go O.Less e = order_not m (order_trans m n m e h)
-    go O.Same e = order_not m (ap (λ (k : List ℕ). order k m) (order_same m n e) ∙ h)
-    go O.More e = e
+    go : (o : Ordering) → order m n ≡ o → order m n ≡ Greater
+    go Less e = order_not m (order_trans m n m e h)
+    go Equal e = order_not m (ap (λ (k : List ℕ). order k m) (order_same m n e) ∙ h)
+    go Greater e = e
 
-above_more : (s : List ℕ) (y e : ℕ) → above s (B.At y) e ≡ true → order (name_in s y) (name_in s e) ≡ O.Less
+above_more : (s : List ℕ) (y e : ℕ) → above s (Some y) e ≡ true → order (name_in s y) (name_in s e) ≡ Less
 above_more s y e h = order_flip (name_in s e) (name_in s y) (go (order (name_in s e) (name_in s y)) h)
   where
-    go : (o : Order) → is_more o ≡ true → o ≡ O.More
-    go O.Less h = clash cc
-    go O.Same h = clash cc
-    go O.More h = refl
+    go : (o : Ordering) → is_gt o ≡ true → o ≡ Greater
+    go Less h = clash cc
+    go Equal h = clash cc
+    go Greater h = refl
 
-above_trans : (s : List ℕ) (low : Bound) (y e : ℕ) → above s (B.At y) e ≡ true → above s low y ≡ true → above s low e ≡ true
-above_trans s B.Open y e h i = refl
-above_trans s (B.At z) y e h i =
-    ap is_more (order_back (name_in s e) (name_in s z) (order_trans (name_in s z) (name_in s y) (name_in s e) (above_more s z y i) (above_more s y e h)))
+above_trans : (s : List ℕ) (low : Option ℕ) (y e : ℕ) → above s (Some y) e ≡ true → above s low y ≡ true → above s low e ≡ true
+above_trans s None y e h i = refl
+above_trans s (Some z) y e h i =
+    ap is_gt (order_back (name_in s e) (name_in s z) (order_trans (name_in s z) (name_in s y) (name_in s e) (above_more s z y i) (above_more s y e h)))
 
-module _ (s : List ℕ) (low : Bound) (y : ℕ) (o : above s low y ≡ true) where
-  left_le : (es : List ℕ) → left s (B.At y) es ≤ left s low es
+module _ (s : List ℕ) (low : Option ℕ) (y : ℕ) (o : above s low y ≡ true) where
+  left_le : (es : List ℕ) → left s (Some y) es ≤ left s low es
   unfolding left
   left_le [] = omega arith
-  left_le (e ∷ es) = go (above s (B.At y) e) (above s low e) refl refl (left_le es)
+  left_le (e ∷ es) = go (above s (Some y) e) (above s low e) refl refl (left_le es)
     where
-      go : (a b : Bool) → above s (B.At y) e ≡ a → above s low e ≡ b → left s (B.At y) es ≤ left s low es
-          → cond a (suc (left s (B.At y) es)) (left s (B.At y) es) ≤ cond b (suc (left s low es)) (left s low es)
+      go : (a b : Bool) → above s (Some y) e ≡ a → above s low e ≡ b → left s (Some y) es ≤ left s low es
+          → cond a (suc (left s (Some y) es)) (left s (Some y) es) ≤ cond b (suc (left s low es)) (left s low es)
       go true true i j l = omega arith
       go true false i j l = let z : true ≡ false = sym (above_trans s low y e i o) ∙ j in clash cc
       go false true i j l = omega arith
       go false false i j l = l
 
-  pub left_less : (es : List ℕ) → In y es → left s (B.At y) es < left s low es
+  pub left_less : (es : List ℕ) → In y es → left s (Some y) es < left s low es
   unfolding left
   left_less es (here {xs = xs}) =
-      let z : above s (B.At y) y ≡ false = ap is_more (order_refl (name_in s y)) in
+      let z : above s (Some y) y ≡ false = ap is_gt (order_refl (name_in s y)) in
       rw (z, o) (omega (arith, left_le xs))
-  left_less es (there {y = e} {xs = xs} i) = go (above s (B.At y) e) (above s low e) refl refl (left_less xs i)
+  left_less es (there {y = e} {xs = xs} i) = go (above s (Some y) e) (above s low e) refl refl (left_less xs i)
     where
-      go : (a b : Bool) → above s (B.At y) e ≡ a → above s low e ≡ b → left s (B.At y) xs < left s low xs
-          → cond a (suc (left s (B.At y) xs)) (left s (B.At y) xs) < cond b (suc (left s low xs)) (left s low xs)
+      go : (a b : Bool) → above s (Some y) e ≡ a → above s low e ≡ b → left s (Some y) xs < left s low xs
+          → cond a (suc (left s (Some y) xs)) (left s (Some y) xs) < cond b (suc (left s low xs)) (left s low xs)
       go true true i j l = omega arith
       go true false i j l = let z : true ≡ false = sym (above_trans s low y e i o) ∙ j in clash cc
       go false true i j l = omega arith

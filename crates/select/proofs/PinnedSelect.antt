@@ -3,6 +3,7 @@ use Prim.Native.Nat.{ℕ}
 use mathlib.Core.Path.{◌≡◌, refl}
 use mathlib.Core.Bool.{true, false}
 use mathlib.Core.List.{List, [], ◌∷◌, map}
+use Rattle.std.proofs.Common.{None, Some}
 use Rattle.format.specs.declared.Kind.TheVariants.{Null}
 use Rattle.format.specs.declared.Form.TheVariants.{SharedField}
 use Rattle.number.specs.VarUInt.{var_uint}
@@ -20,7 +21,6 @@ use Rattle.entries.specs.Entry.{bytes_at, half_at, mark_of, entry_of}
 use Rattle.compare.specs.Order.{order}
 use Rattle.entries.specs.Least.{is_first, is_twin, least_of}
 use Rattle.select.specs.declared.Source.TheVariants.{Fields, Frames}
-use Rattle.select.specs.declared.Bound.TheVariants as B
 use Rattle.select.specs.Source.{entries_from, first_twin, searched}
 use Rattle.select.specs.Range.{above, up_to, wanted}
 
@@ -60,14 +60,14 @@ b = entry_of part 3 4
 abbrev a : ℕ
 a = entry_of part 1 2
 
-pub range_pinned : map (λ l. above part l b) (B.Open ∷ B.At a ∷ B.At b ∷ []) ≡ true ∷ true ∷ false ∷ []
+pub range_pinned : map (λ l. above part l b) (None ∷ Some a ∷ Some b ∷ []) ≡ true ∷ true ∷ false ∷ []
 unfolding order bytes_at half_at mark_of entry_of
 range_pinned = refl
 
-pub up_pinned : map (λ l. up_to part l b) (B.Open ∷ B.At a ∷ B.At b ∷ []) ≡ true ∷ false ∷ true ∷ []
+pub up_pinned : map (λ l. up_to part l b) (None ∷ Some a ∷ Some b ∷ []) ≡ true ∷ false ∷ true ∷ []
 unfolding order bytes_at half_at mark_of entry_of
 up_pinned = refl
 
-pub wanted_pinned : map (λ n. wanted part (B.At a) (B.At b) n b) (4 ∷ 3 ∷ 2 ∷ []) ≡ true ∷ false ∷ false ∷ []
+pub wanted_pinned : map (λ n. wanted part (Some a) (Some b) n b) (4 ∷ 3 ∷ 2 ∷ []) ≡ true ∷ false ∷ false ∷ []
 unfolding order bytes_at half_at mark_of entry_of wanted
 wanted_pinned = refl

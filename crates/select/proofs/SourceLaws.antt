@@ -1,5 +1,6 @@
 -- The entries of the names that stand in a part: their bytes are the names. So a twin is told exactly if two names are equal.
-use Prim.Native.Nat.{ℕ, zero, suc, ◌+◌, ◌-◌, ◌≤◌, ◌<◌}
+use Rattle.std.specs.Prelude.{Some, None, Option}
+use Prim.Native.Nat.{ℕ, zero, suc, ◌+◌, ◌≤◌, ◌<◌}
 use native.Mathlib.Omega.{arith}
 use mathlib.Core.Path.{◌≡◌, refl, sym, ap, ◌∙◌}
 use mathlib.Core.Bool.{true}
@@ -10,8 +11,6 @@ use Rattle.text.specs.Equal.{equal}
 use Rattle.format.specs.declared.Form.{Form}
 use Rattle.format.specs.Names.{twins}
 use Rattle.front.specs.Between.{between}
-use Rattle.names.specs.declared.Name.{Name}
-use Rattle.names.specs.declared.Name.TheVariants as N
 use Rattle.names.specs.FieldNames.{name_at, names_at, field_names, twins_at}
 use Rattle.names.proofs.NameFound.{found_at, none_at}
 use Rattle.entries.specs.Entry.{bytes_in, name_in, entry_of}
@@ -25,11 +24,12 @@ use Rattle.select.proofs.HalfLaws.{none_in, in_first}
 use Rattle.select.proofs.WalkLaws.{lead_of, named_on}
 use Rattle.select.proofs.TwinLaws.{Keyed, twins_are}
 use Rattle.select.proofs.FrontLaws.{entries_ascend}
+use Rattle.names.specs.declared.Name.{Name}
 
 -- what is known of a source: `ns a` are the names from a on
 pub record Sound (o : Source) (s : List ℕ) (ns : ℕ → List (List ℕ)) : Type 0 where
-  pub none : (a : ℕ) → a ≤ length s → named_at o a s ≡ N.Nothing → ns a ≡ []
-  pub more : (a b e n : ℕ) → a ≤ length s → named_at o a s ≡ N.At b e n → ns a ≡ between b e s ∷ ns n
+  pub none : (a : ℕ) → a ≤ length s → named_at o a s ≡ None → ns a ≡ []
+  pub more : (a : ℕ) (p : Name) → a ≤ length s → named_at o a s ≡ Some p → ns a ≡ between p.begin p.end s ∷ ns p.next
   pub ends : ns (length s) ≡ []
 
 -- an entry of a name that stands in the part
@@ -48,17 +48,17 @@ module _ (o : Source) (s : List ℕ) (ns : ℕ → List (List ℕ)) (w : Sound o
       record { names = sym (ap ns z ∙ w.ends); good = λ x h. none_in x [] h refl }
   entries_whole (suc k) a i j = go (named_at o a s) refl (λ n c d. entries_whole k n c d)
     where
-      go : (y : Name) → named_at o a s ≡ y → ((n : ℕ) → n ≤ length s → length s ≤ n + k → Whole n (entries_from o s k n))
+      go : (y : Option Name) → named_at o a s ≡ y → ((n : ℕ) → n ≤ length s → length s ≤ n + k → Whole n (entries_from o s k n))
           → Whole a (entries_after s y (λ n. entries_from o s k n))
-      go N.Nothing h f = record { names = sym (w.none a i h); good = λ x q. none_in x [] q refl }
-      go (N.At b e n) h f =
-          let p = named_on o s a b e n i h in
-          let r = f n p.inside (omega (arith, p.onward)) in
-          let c : e ≤ length s = omega (arith, p.before, p.inside) in
+      go None h f = record { names = sym (w.none a i h); good = λ x q. none_in x [] q refl }
+      go (Some p) h f =
+          let m = named_on o s a p i h in
+          let r = f p.next m.inside (omega (arith, m.onward)) in
+          let c : p.end ≤ length s = omega (arith, m.before, m.inside) in
           record {
-            names = ap (λ (m : List ℕ). m ∷ map (λ x. bytes_in s x) (entries_from o s k n)) (entry_bytes s b e p.ordered c short)
-                ∙ ap (λ (t : List (List ℕ)). between b e s ∷ t) r.names ∙ sym (w.more a b e n i h);
-            good = λ x q. in_first x (entry_of s b e) (entries_from o s k n) q (λ d. (b, e, p.ordered, c, d)) (λ v. r.good x v);
+            names = ap (λ (n : List ℕ). n ∷ map (λ x. bytes_in s x) (entries_from o s k p.next)) (entry_bytes s p.begin p.end m.ordered c short)
+                ∙ ap (λ (t : List (List ℕ)). between p.begin p.end s ∷ t) r.names ∙ sym (w.more a p i h);
+            good = λ x q. in_first x (entry_of s p.begin p.end) (entries_from o s k p.next) q (λ d. (p.begin, p.end, m.ordered, c, d)) (λ v. r.good x v);
           }
 
   keyed : (es : List ℕ) → ((x : ℕ) → In x es → Good s x) → Keyed s es
@@ -88,7 +88,7 @@ fields_sound : (f : Form) (s : List ℕ) → Sound (S.Fields f) s (λ a. field_n
 fields_sound f s =
     record {
       none = λ a i h. none_at f s a (name_at f a s) refl h;
-      more = λ a b e n i h. (found_at f s a (name_at f a s) refl i b e n h).names;
+      more = λ a p i h. (found_at f s a (name_at f a s) refl i p h).names;
       ends = no_fields f s;
     }
 

@@ -1,4 +1,5 @@
 -- The walk over the names of a part: what was met so far, and what comes.
+use Rattle.std.specs.Prelude.{None, Some, Option}
 use Prim.Native.Nat.{ℕ, zero, suc, ◌+◌, ◌-◌, ◌≤◌, ◌<◌}
 use native.Mathlib.Omega.{arith}
 use mathlib.Core.Path.{◌≡◌, refl, sym, ap, ◌∙◌}
@@ -7,8 +8,6 @@ use mathlib.Core.List.{List, [], ◌∷◌, ◌++◌, append_assoc, append-nil}
 use lib.Dec.{leb}
 use Rattle.number.proofs.Clash.{clash}
 use lib.ListN.{length, drop_of_length-le}
-use Rattle.names.specs.declared.Name.{Name}
-use Rattle.names.specs.declared.Name.TheVariants as N
 use Rattle.names.proofs.NameFound.{found_at, name_at_past}
 use Rattle.names.proofs.NameApart.{lead, name_apart}
 use Rattle.passing.specs.FrameNames as frames
@@ -19,6 +18,7 @@ use Rattle.entries.proofs.Perms.{in_left, in_last}
 use Rattle.select.specs.declared.Source.{Source}
 use Rattle.select.specs.declared.Source.TheVariants as S
 use Rattle.select.specs.Source.{named_at, entries_after, entries_from, entries_of}
+use Rattle.names.specs.declared.Name.{Name}
 
 -- ---- the name at a position
 
@@ -36,16 +36,16 @@ pub record Named (o : Source) (s : List ℕ) (a b e n : ℕ) : Type 0 where
   pub behind : lead_of o + a ≤ b
   pub apart : b < lead_of o + n
 
-pub named_on : (o : Source) (s : List ℕ) (a b e n : ℕ) → a ≤ length s → named_at o a s ≡ N.At b e n → Named o s a b e n
-named_on (S.Fields f) s a b e n l h =
-    let w = found_at f s a (N.At b e n) (sym h) l b e n refl in
-    let v = name_apart f s a b e n h in
+pub named_on : (o : Source) (s : List ℕ) (a : ℕ) (p : Name) → a ≤ length s → named_at o a s ≡ Some p → Named o s a p.begin p.end p.next
+named_on (S.Fields f) s a p l h =
+    let w = found_at f s a (Some p) (sym h) l p refl in
+    let v = name_apart f s a p h in
     record { ordered = w.ordered; before = w.before; inside = w.inside; onward = w.onward; behind = v.0; apart = v.1 }
-named_on (S.Frames d p) s a b e n l h = go (leb a p) h
+named_on (S.Frames d last) s a p l h = go (leb a last) h
   where
-    go : (t : Bool) → cond t (frames.name_at d a s) N.Nothing ≡ N.At b e n → Named (S.Frames d p) s a b e n
+    go : (t : Bool) → cond t (frames.name_at d a s) None ≡ Some p → Named (S.Frames d last) s a p.begin p.end p.next
     go true h =
-        let w = passing.found_at d a s l b e n h in
+        let w = passing.found_at d a s l p h in
         record {
           ordered = w.ordered;
           before = w.before;
@@ -56,16 +56,16 @@ named_on (S.Frames d p) s a b e n l h = go (leb a p) h
         }
     go false h = clash cc
 
-no_frame : (d : ℕ) (s : List ℕ) (a : ℕ) → length s ≤ a → frames.name_at d a s ≡ N.Nothing
+no_frame : (d : ℕ) (s : List ℕ) (a : ℕ) → length s ≤ a → frames.name_at d a s ≡ None
 unfolding frames.name_at frames.name_of
 no_frame zero s a l = refl
 no_frame (suc d) s a l = rw (drop_of_length-le s l)
 
-named_past : (o : Source) (s : List ℕ) (a : ℕ) → length s ≤ a → named_at o a s ≡ N.Nothing
+named_past : (o : Source) (s : List ℕ) (a : ℕ) → length s ≤ a → named_at o a s ≡ None
 named_past (S.Fields f) s a l = sym (name_at_past f s a l)
 named_past (S.Frames d p) s a l = rw (no_frame d s a l) (go (leb a p))
   where
-    go : (t : Bool) → cond t N.Nothing N.Nothing ≡ N.Nothing
+    go : (t : Bool) → ◌≡◌ {A = Option Name} (cond t None None) None
     go true = refl
     go false = refl
 
@@ -81,7 +81,7 @@ pub walk_starts : (o : Source) (s : List ℕ) → Walked o s [] 0
 walk_starts o s = record { fuel = length s; enough = omega arith; inside = omega arith; whole = refl }
 
 module _ (o : Source) (s ws : List ℕ) (at : ℕ) (w : Walked o s ws at) where
-  ended : named_at o at s ≡ N.Nothing → entries_of o s ≡ ws
+  ended : named_at o at s ≡ None → entries_of o s ≡ ws
   unfolding entries_from
   ended h = w.whole ∙ go w.fuel
     where
@@ -92,34 +92,34 @@ module _ (o : Source) (s ws : List ℕ) (at : ℕ) (w : Walked o s ws at) where
   pub walk_ends : length s ≤ at → entries_of o s ≡ ws
   walk_ends l = ended (named_past o s at l)
 
-  module _ (x : Name) (e : x ≡ named_at o at s) where
-    pub walk_stops : x ≡ N.Nothing → entries_of o s ≡ ws
+  module _ (x : Option Name) (e : x ≡ named_at o at s) where
+    pub walk_stops : x ≡ None → entries_of o s ≡ ws
     walk_stops h = ended (sym e ∙ h)
 
-    module _ (l : at < length s) (b f n : ℕ) (h : x ≡ N.At b f n) where
-      onward : Named o s at b f n
-      onward = named_on o s at b f n (omega arith) (sym e ∙ h)
+    module _ (l : at < length s) (p : Name) (h : x ≡ Some p) where
+      onward : Named o s at p.begin p.end p.next
+      onward = named_on o s at p (omega arith) (sym e ∙ h)
 
-      pub walk_less : length s - n < length s - at
+      pub walk_less : length s - p.next < length s - at
       walk_less = omega (arith, onward.onward, onward.inside)
 
-      pub walk_on : Walked o s (ws ++ (entry_of s b f ∷ [])) n
+      pub walk_on : Walked o s (ws ++ (entry_of s p.begin p.end ∷ [])) p.next
       unfolding entries_from
       walk_on = go w.fuel w.enough w.whole
         where
-          go : (k : ℕ) → length s ≤ at + k → entries_of o s ≡ ws ++ entries_from o s k at → Walked o s (ws ++ (entry_of s b f ∷ [])) n
+          go : (k : ℕ) → length s ≤ at + k → entries_of o s ≡ ws ++ entries_from o s k at → Walked o s (ws ++ (entry_of s p.begin p.end ∷ [])) p.next
           go zero q i = absurd (omega arith)
           go (suc k) q i =
               record {
                 fuel = k;
                 enough = omega (arith, onward.onward);
                 inside = onward.inside;
-                whole = i ∙ ap (λ (y : Name). ws ++ entries_after s y (λ m. entries_from o s k m)) (sym e ∙ h)
-                    ∙ sym (append_assoc ws (entry_of s b f ∷ []) (entries_from o s k n));
+                whole = i ∙ ap (λ (y : Option Name). ws ++ entries_after s y (λ m. entries_from o s k m)) (sym e ∙ h)
+                    ∙ sym (append_assoc ws (entry_of s p.begin p.end ∷ []) (entries_from o s k p.next));
               }
 
-      pub walk_in : In (entry_of s b f) (entries_of o s)
-      walk_in = same (entries_of o s) _ walk_on.whole (in_left (ws ++ (entry_of s b f ∷ [])) _ (in_last ws (entry_of s b f)))
+      pub walk_in : In (entry_of s p.begin p.end) (entries_of o s)
+      walk_in = same (entries_of o s) _ walk_on.whole (in_left (ws ++ (entry_of s p.begin p.end ∷ [])) _ (in_last ws (entry_of s p.begin p.end)))
         where
-          same : (xs ys : List ℕ) → xs ≡ ys → In (entry_of s b f) ys → In (entry_of s b f) xs
+          same : (xs ys : List ℕ) → xs ≡ ys → In (entry_of s p.begin p.end) ys → In (entry_of s p.begin p.end) xs
           same xs ys e i = rw e i

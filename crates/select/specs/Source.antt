@@ -1,21 +1,20 @@
 -- Names that stand in a part one after another, as entries, and the first that is equal to one before it. An entry holds a part shorter than 16,777,216 bytes.
-use Rattle.std.specs.Prelude.{ℕ, zero, suc, cond, List, [], ◌∷◌, ◌++◌, leb, length, drop, replicate}
-use Rattle.names.specs.declared.Name.{Name}
-use Rattle.names.specs.declared.Name.TheVariants as N
+use Rattle.std.specs.Prelude.{ℕ, zero, suc, cond, List, [], ◌∷◌, ◌++◌, leb, length, drop, replicate, Some, Option, None}
 use Rattle.names.specs.FieldNames.{name_at}
 use Rattle.passing.specs.FrameNames as frames
 use Rattle.entries.specs.Entry.{entry_of}
 use Rattle.entries.specs.Least.{least}
 use Rattle.select.specs.declared.Source.{Source}
 use Rattle.select.specs.declared.Source.TheVariants as S
+use Rattle.names.specs.declared.Name.{Name}
 
-abbrev pub named_at : Source → ℕ → List ℕ → Name
+abbrev pub named_at : Source → ℕ → List ℕ → Option Name
 named_at (S.Fields f) a s = name_at f a s
-named_at (S.Frames d p) a s = cond (leb a p) (frames.name_at d a s) N.Nothing
+named_at (S.Frames d p) a s = cond (leb a p) (frames.name_at d a s) None
 
-abbrev pub entries_after : List ℕ → Name → (ℕ → List ℕ) → List ℕ
-entries_after s N.Nothing more = []
-entries_after s (N.At b e n) more = entry_of s b e ∷ more n
+abbrev pub entries_after : List ℕ → Option Name → (ℕ → List ℕ) → List ℕ
+entries_after s None more = []
+entries_after s (Some p) more = entry_of s p.begin p.end ∷ more p.next
 
 -- from a position on. The number bounds how many, and the length is enough
 unfoldable pub entries_from : Source → List ℕ → ℕ → ℕ → List ℕ

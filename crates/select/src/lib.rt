@@ -7,11 +7,8 @@ ghost use Rattle.select.specs.Source.{named_at, entries_of, first_twin, searched
 ghost use Rattle.select.specs.Range.{above, up_to, wanted};
 ghost use Rattle.select.specs.Passes.{Covered, Cuts, Adds, Finishes, Passes, Fills};
 
-use compare::Order;
-use divide::Divided;
 use format::Form;
 use names::Name;
-use order::Arranged;
 
 // Where the names come from: the fields of an object; or the frames that describe one, with so many levels left, those that begin up to a place.
 #[derive(Clone, Copy)]
@@ -20,73 +17,48 @@ pub enum Source {
     Frames(u32, usize),
 }
 
-// The end of a range of names: there is none, or the name of an entry.
-#[derive(Clone, Copy)]
-pub enum Bound {
-    Open,
-    At(u64),
-}
-
-// A pass: up to which name it takes, how many entries stand in the table, and where the first twin begins so far.
-#[derive(Clone, Copy)]
+// A pass: up to the name of which entry it takes, if not all, how many entries stand in the table, and where the first twin begins so far.
+#[derive(Clone, Copy, Debug, PartialEq, Eq)]
 pub struct Pass {
-    pub high: Bound,
+    pub high: Option<u64>,
     pub count: usize,
     pub stop: usize,
 }
 
 // The name at a position.
-pub fn name_at(part: &[u8], at: usize, source: Source) -> Name
+pub fn name_at(part: &[u8], at: usize, source: Source) -> Option<Name>
     ensures { result ≡ named_at source at part.now }
 {
     match source {
         Source::Fields(form) => names::name_at(part, at, form),
         Source::Frames(left, last) => {
             if at <= last {
-                return passing::name_at(part, at, left);
+                passing::name_at(part, at, left)
+            } else {
+                None
             }
-            Name::Nothing
         }
     }
 }
 
-fn is_above(part: &[u8], low: Bound, x: u64) -> bool
+// A range of names ends at the name of an entry, or nowhere.
+fn is_above(part: &[u8], low: Option<u64>, x: u64) -> bool
     ensures { result ≡ above part.now low x }
 {
-    match low {
-        Bound::Open => true,
-        Bound::At(y) => match compare::compare(part, x, y) {
-            Order::Less => false,
-            Order::Same => false,
-            Order::More => true,
-        },
-    }
+    low.is_none_or(|y| compare::compare(part, x, y).is_gt())
 }
 
-fn is_upto(part: &[u8], high: Bound, x: u64) -> bool
+fn is_upto(part: &[u8], high: Option<u64>, x: u64) -> bool
     ensures { result ≡ up_to part.now high x }
 {
-    match high {
-        Bound::Open => true,
-        Bound::At(y) => match compare::compare(part, x, y) {
-            Order::Less => true,
-            Order::Same => true,
-            Order::More => false,
-        },
-    }
+    high.is_none_or(|y| compare::compare(part, x, y).is_le())
 }
 
 // A name that is above one bound and up to the other, and begins before the first twin so far.
-fn is_wanted(part: &[u8], low: Bound, high: Bound, stop: usize, x: u64) -> bool
+fn is_wanted(part: &[u8], low: Option<u64>, high: Option<u64>, stop: usize, x: u64) -> bool
     ensures { result ≡ wanted part.now low high stop x }
 {
-    if stop <= entries::begin_of(x) {
-        return false;
-    }
-    if is_above(part, low, x) {
-        return is_upto(part, high, x);
-    }
-    false
+    entries::begin_of(x) < stop && is_above(part, low, x) && is_upto(part, high, x)
 }
 
 // A full table is arranged. What begins at the first twin or behind it goes, and so does the upper half of the names, if more than half is left.
@@ -94,60 +66,53 @@ fn cut(part: &[u8], table: &mut [u64], pass: Pass) -> Pass
     requires { (2 ≤ pass.count) × (pass.count ≤ length table.old / 2) }
     ensures { Cuts part.now table.old table.new pass result }
 {
-    let high = pass.high;
     let half = pass.count / 2;
-    match order::arrange(part, table, pass.count) {
-        Arranged::NoRoom => pass,
-        Arranged::Done { count, least } => {
-            let stop = entries::lesser(pass.stop, least);
-            if half < count {
-                return Pass {
-                    high: Bound::At(table[half - 1]),
-                    count: half,
-                    stop: stop,
-                };
-            }
-            Pass {
-                high: high,
-                count: count,
-                stop: stop,
-            }
-        }
+    let Some(arranged) = order::arrange(part, table, pass.count) else {
+        return pass;
+    };
+    let stop = entries::lesser(pass.stop, arranged.least);
+    if half < arranged.count {
+        return Pass {
+            high: Some(table[half - 1]),
+            count: half,
+            stop,
+        };
+    }
+    Pass {
+        count: arranged.count,
+        stop,
+        ..pass
     }
 }
 
 // One entry more, where there is room for it.
-fn put(part: &[u8], low: Bound, table: &mut [u64], pass: Pass, x: u64) -> Pass
+fn put(part: &[u8], low: Option<u64>, table: &mut [u64], pass: Pass, x: u64) -> Pass
     requires { pass.count < length table.old / 2 }
     ensures { Adds part.now table.old table.new low x pass result }
 {
-    let high = pass.high;
-    if is_wanted(part, low, high, pass.stop, x) {
-        let n = pass.count;
-        table[n] = x;
-        return Pass {
-            high: high,
-            count: n + 1,
-            stop: pass.stop,
-        };
+    if !is_wanted(part, low, pass.high, pass.stop, x) {
+        return pass;
     }
-    pass
+    table[pass.count] = x;
+    Pass {
+        count: pass.count + 1,
+        ..pass
+    }
 }
 
 // One entry more: a table that is full is cut first.
-fn add(part: &[u8], low: Bound, table: &mut [u64], pass: Pass, x: u64) -> Pass
+fn add(part: &[u8], low: Option<u64>, table: &mut [u64], pass: Pass, x: u64) -> Pass
     requires { (4 ≤ length table.old) × (pass.count ≤ length table.old / 2) }
     ensures { Adds part.now table.old table.new low x pass result }
 {
     if pass.count < table.len() / 2 {
         return put(part, low, table, pass, x);
     }
-    let high = pass.high;
-    if is_wanted(part, low, high, pass.stop, x) {
-        let less = cut(part, table, pass);
-        return put(part, low, table, less, x);
+    if !is_wanted(part, low, pass.high, pass.stop, x) {
+        return pass;
     }
-    pass
+    let less = cut(part, table, pass);
+    put(part, low, table, less, x)
 }
 
 // All names were met: what is in the table is arranged, and the first twin so far is told.
@@ -155,38 +120,39 @@ fn finish(part: &[u8], table: &mut [u64], pass: Pass) -> Pass
     requires { pass.count ≤ length table.old / 2 }
     ensures { Finishes part.now table.old table.new pass result }
 {
-    let high = pass.high;
-    match order::arrange(part, table, pass.count) {
-        Arranged::NoRoom => pass,
-        Arranged::Done { count: _, least } => Pass {
-            high: high,
-            count: 0,
-            stop: entries::lesser(pass.stop, least),
-        },
+    let Some(arranged) = order::arrange(part, table, pass.count) else {
+        return pass;
+    };
+    Pass {
+        count: 0,
+        stop: entries::lesser(pass.stop, arranged.least),
+        ..pass
     }
 }
 
 // One pass: the least names above a bound, as many as the table holds.
-fn gather(part: &[u8], source: Source, low: Bound, table: &mut [u64], stop: usize) -> Pass
+fn gather(part: &[u8], source: Source, low: Option<u64>, table: &mut [u64], stop: usize) -> Pass
     requires { (4 ≤ length table.old) × Covered part.now (entries_of source part.now) low stop }
     ensures { Passes part.now (entries_of source part.now) low table.old table.new result }
 {
     let mut at = 0;
     let mut pass = Pass {
-        high: Bound::Open,
+        high: None,
         count: 0,
-        stop: stop,
+        stop,
     };
     while at < part.len() {
-        match name_at(part, at, source) {
-            Name::Nothing => {
-                return finish(part, table, pass);
-            }
-            Name::At { begin, end, next } => {
-                pass = add(part, low, table, pass, entries::entry(part, begin, end));
-                at = next;
-            }
-        }
+        let Some(name) = name_at(part, at, source) else {
+            break;
+        };
+        pass = add(
+            part,
+            low,
+            table,
+            pass,
+            entries::entry(part, name.begin, name.end),
+        );
+        at = name.next;
     }
     finish(part, table, pass)
 }
@@ -196,20 +162,15 @@ fn search(part: &[u8], source: Source, table: &mut [u64]) -> usize
     requires { 4 ≤ length table.old }
     ensures { (result ≡ first_twin source part.now) × (length table.new ≡ length table.old) }
 {
-    let mut low = Bound::Open;
-    let mut stop: usize = 16777216;
+    let mut low = None;
+    let mut stop = 16777216;
     loop {
         let pass = gather(part, source, low, table, stop);
-        let high = pass.high;
-        match high {
-            Bound::Open => {
-                return pass.stop;
-            }
-            Bound::At(y) => {
-                low = Bound::At(y);
-                stop = pass.stop;
-            }
+        if pass.high.is_none() {
+            return pass.stop;
         }
+        low = pass.high;
+        stop = pass.stop;
     }
 }
 
@@ -219,44 +180,34 @@ fn pass_all(part: &[u8], source: Source, table: &mut [u64]) -> usize
 {
     if table.len() < 4 {
         let mut own = [0u64; 64];
-        entries::clear(table);
+        table.fill(0);
         return search(part, source, &mut own);
     }
     let answer = search(part, source, table);
-    entries::clear(table);
+    table.fill(0);
     answer
 }
 
 // ---- all names at once
 
-// So many entries stand in front of the table, and they are all; or it is full of the first of them, and there are more.
-#[derive(Clone, Copy)]
-pub enum Filled {
-    All(usize),
-    More,
-}
-
-fn fill(part: &[u8], source: Source, table: &mut [u64]) -> Filled
+// How many entries stand in front of the table, if they are all; else it is full of the first of them.
+fn fill(part: &[u8], source: Source, table: &mut [u64]) -> Option<usize>
     ensures { Fills (entries_of source part.now) table.old table.new result }
 {
     let mut at = 0;
     let mut n = 0;
     while at < part.len() {
-        match name_at(part, at, source) {
-            Name::Nothing => {
-                return Filled::All(n);
-            }
-            Name::At { begin, end, next } => {
-                if table.len() <= n {
-                    return Filled::More;
-                }
-                table[n] = entries::entry(part, begin, end);
-                n += 1;
-                at = next;
-            }
+        let Some(name) = name_at(part, at, source) else {
+            break;
+        };
+        if table.len() <= n {
+            return None;
         }
+        table[n] = entries::entry(part, name.begin, name.end);
+        n += 1;
+        at = name.next;
     }
-    Filled::All(n)
+    Some(n)
 }
 
 // A table that is full of the first names. A twin among them is the first of all, since each later name begins behind it; if there is none, there are passes.
@@ -266,14 +217,9 @@ fn go_on(part: &[u8], source: Source, table: &mut [u64]) -> usize
 {
     let n = table.len();
     match divide::first_twin(part, table, n) {
-        Divided::Unfit => 0,
-        Divided::Done(least) => {
-            let stands = least < 16777216;
-            if stands {
-                return least;
-            }
-            pass_all(part, source, table)
-        }
+        None => 0,
+        Some(least) if least < 16777216 => least,
+        Some(_) => pass_all(part, source, table),
     }
 }
 
@@ -284,10 +230,7 @@ pub fn first_twin(part: &[u8], source: Source, table: &mut [u64]) -> usize
     ensures { record { answer = result; table = table.new } ≡ searched source part.now table.old }
 {
     match fill(part, source, table) {
-        Filled::More => go_on(part, source, table),
-        Filled::All(n) => match divide::first_twin(part, table, n) {
-            Divided::Done(least) => least,
-            Divided::Unfit => 0,
-        },
+        None => go_on(part, source, table),
+        Some(n) => divide::first_twin(part, table, n).unwrap_or(0),
     }
 }

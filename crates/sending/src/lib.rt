@@ -4,8 +4,6 @@
 ghost use Rattle.std.specs.Prelude.{◌≡◌};
 ghost use Rattle.sending.specs.Sent.{sent};
 
-use frames::Written;
-
 // The work numbers are zero and the output is as before, if it is not 0.
 pub fn send(list: &[u8], out: &mut [u8], work: &mut [u32], answer: &mut [u64]) -> u32
     ensures { record { code = result; held = answer.new; output = out.new; work = work.new }
@@ -16,13 +14,13 @@ pub fn send(list: &[u8], out: &mut [u8], work: &mut [u32], answer: &mut [u64]) -
         return replies::TOO_FEW;
     }
     match write::write(list, out, work) {
-        Written::Done(length) => {
+        Ok(length) => {
             answer[0] = length as u64;
             0
         }
-        Written::Refused(refusal, place) => {
-            answer[0] = place as u64;
-            frames::refusal_number(refusal)
+        Err(refused) => {
+            answer[0] = refused.place as u64;
+            frames::refusal_number(refused.refusal)
         }
     }
 }

@@ -1,2 +1,1 @@
-mod DecidedReturns
 pub mod OneAnswer

@@ -13,7 +13,6 @@ use Rattle.format.specs.declared.Kind.TheVariants.{Object, Array, IntegerNegativ
 use Rattle.format.specs.Kinds.{same, any, is_uniform, is_uniform_array}
 use Rattle.format.specs.declared.Flaw.{Flaw}
 use Rattle.format.specs.declared.Flaw.TheVariants.{Twin, Blank, Long, Low, Wide, NotUtf8, NotUniform}
-use Rattle.format.specs.Parse.{number}
 use Rattle.format.specs.Names.{is_empty, twins}
 use Rattle.format.specs.Tree.{Leaf, integer, float, atom, array, object}
 use Rattle.format.specs.Payload.{float64}

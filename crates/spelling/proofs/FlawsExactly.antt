@@ -24,7 +24,7 @@ use Rattle.format.specs.Limits.{depth_limit}
 use Rattle.format.specs.Tree.{Float, Node}
 use Rattle.format.specs.Reader.{Standing, Layout}
 use Rattle.places.specs.Values.{Sort, whole, real, time, other, float_bits}
-use Rattle.format.specs.Mask.{has, flaws}
+use Rattle.format.specs.Mask.{has}
 use Rattle.places.specs.Show.{ShownPayload}
 use Rattle.spelling.specs.Flawed.{Part, parts, inside, names_of, texts_of, number_of, is_low, is_held, flawed_part, flawed}
 use Rattle.spelling.specs.Spells.{Bare}

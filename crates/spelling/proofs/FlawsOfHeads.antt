@@ -1,4 +1,5 @@
 -- Of one flaw that a layout shows: the readers of a number, a text, a name, a field's front and a payload's head tell what the tests of the layout say.
+use Rattle.std.specs.Prelude.{Option, None, Some}
 use Prim.Native.Nat.{ℕ, zero, suc, ◌^◌}
 use mathlib.Core.Path.{◌≡◌, refl, sym, ap, subst, ◌∙◌}
 use mathlib.Core.Bool.{Bool, true, false, not, ◌&&◌, ◌||◌, or-false, or_assoc}
@@ -14,8 +15,6 @@ use Rattle.format.specs.declared.Kind.{Kind}
 use Rattle.format.specs.declared.Kind.TheVariants.{Null, Object, UniformObject, Array, UniformArray, Binary, String, IntegerPositive, IntegerNegative}
 use Rattle.format.specs.declared.Kind.TheVariants.{Float32, Float64, False, True, ObjectAttachment, BinaryAttachment, Hash, Uuid, DateTime, TimeSpan}
 use Rattle.format.specs.declared.Kind.TheVariants.{ObjectId, CustomById, CustomByName}
-use Rattle.format.specs.declared.Known.{Known}
-use Rattle.format.specs.declared.Known.TheVariants.{Unknown, Is}
 use Rattle.format.specs.declared.Mark.{Mark}
 use Rattle.format.specs.declared.Mark.TheVariants.{OfTop, OfField, OfItem, SharedByFields, SharedByItems}
 use Rattle.format.specs.declared.Form.{Form}
@@ -83,9 +82,9 @@ module _ (f : Flaw) (shows : is f Long ≡ false) where
   tells_type c m [] = record { says = tt }
   tells_type c m (b ∷ s) = go (kind_at m b)
     where
-      go : (k : Known) → Tells f c (Keeps c) (kind_found k s)
-      go Unknown = record { says = tt }
-      go (Is k) = tells_got f c (Keeps c) k s refl
+      go : (k : Option Kind) → Tells f c (Keeps c) (kind_found k s)
+      go None = record { says = tt }
+      go (Some k) = tells_got f c (Keeps c) k s refl
 
   pub tells_front : (g : Form) (c : Bool) (s : List ℕ) → Tells f c (Adds c (front_flawed f g)) (front g s)
   unfolding front
@@ -159,19 +158,19 @@ module _ (f : Flaw) (shows : is f Long ≡ false) where
   shared_fields_tells c [] = record { says = tt }
   shared_fields_tells c (b ∷ s) = go (kind_at SharedByFields b) s
     where
-      go : (k : Known) (s : List ℕ) → Tells f c (HeadTells f UniformObject c) (shared_fields_of k s)
-      go Unknown s = record { says = tt }
-      go (Is k) [] = record { says = tt }
-      go (Is k) (b ∷ s) = tells_got f c (HeadTells f UniformObject c) (fields_in (SharedField k) (b ∷ s)) [] (refl, refl, refl, refl)
+      go : (k : Option Kind) (s : List ℕ) → Tells f c (HeadTells f UniformObject c) (shared_fields_of k s)
+      go None s = record { says = tt }
+      go (Some k) [] = record { says = tt }
+      go (Some k) (b ∷ s) = tells_got f c (HeadTells f UniformObject c) (fields_in (SharedField k) (b ∷ s)) [] (refl, refl, refl, refl)
 
   shared_items_tells : (c d : Bool) → d ≡ c → (n : ℕ) (b : List ℕ) → Tells f d (HeadTells f UniformArray c) (read_shared_items n b)
   shared_items_tells c d e n [] = record { says = tt }
   shared_items_tells c d e n (b ∷ s) = go n (kind_at SharedByItems b)
     where
-      go : (n : ℕ) (k : Known) → Tells f d (HeadTells f UniformArray c) (shared_items_of n k s)
-      go n Unknown = record { says = tt }
-      go zero (Is k) = record { says = tt }
-      go (suc n) (Is k) =
+      go : (n : ℕ) (k : Option Kind) → Tells f d (HeadTells f UniformArray c) (shared_items_of n k s)
+      go n None = record { says = tt }
+      go zero (Some k) = record { says = tt }
+      go (suc n) (Some k) =
           tells_unless f d _ (is_bare k) BadUniform _ (tells_got f d (HeadTells f UniformArray c) (items_in (SharedItem k) (suc n) s) [] (e, refl, refl, refl))
 
   pub tells_head : (k : Kind) (c : Bool) (s : List ℕ) → Tells f c (HeadTells f k c) (head k s)

@@ -1,4 +1,5 @@
 -- The type byte, a text, a name, and a field's front are read just as the grammar spells them.
+use Rattle.std.specs.Prelude.{Option, None, Some}
 use Prim.Native.Nat.{ℕ}
 use mathlib.Core.Path.{◌≡◌, refl, sym, ap, subst, ◌∙◌}
 use mathlib.Core.Bool.{not}
@@ -6,8 +7,6 @@ use mathlib.Core.List.{List, [], ◌∷◌, ◌++◌}
 use Rattle.number.specs.BigEndian.{Bytes}
 use Rattle.text.specs.Utf8.{is_text}
 use Rattle.format.specs.declared.Kind.{Kind}
-use Rattle.format.specs.declared.Known.{Known}
-use Rattle.format.specs.declared.Known.TheVariants.{Unknown, Is}
 use Rattle.format.specs.declared.Mark.{Mark}
 use Rattle.format.specs.declared.Mark.TheVariants.{OfTop, OfField, OfItem}
 use Rattle.format.specs.declared.Form.{Form}
@@ -32,9 +31,9 @@ module _ {C : List Flaw → Type 0} (clean : Clean C) where
       to [] k fs r y e c = never e
       to (b ∷ s) k fs r y e c = go (kind_at m b) refl e
         where
-          go : (o : Known) → kind_at m b ≡ o → kind_found o s ≡ got k fs r → (w : List ℕ) × (b ∷ s ≡ w ++ r) × (w ≡ type_byte m k ∷ [])
-          go Unknown i e = never e
-          go (Is l) i e = let z : l ≡ k = cc in (b ∷ [], cc, ap (λ b. b ∷ []) (kind_inv m b k (rw z at i)))
+          go : (o : Option Kind) → kind_at m b ≡ o → kind_found o s ≡ got k fs r → (w : List ℕ) × (b ∷ s ≡ w ++ r) × (w ≡ type_byte m k ∷ [])
+          go None i e = never e
+          go (Some l) i e = let z : l ≡ k = cc in (b ∷ [], cc, ap (λ b. b ∷ []) (kind_inv m b k (rw z at i)))
 
   module _ {Num : ℕ → List ℕ → Type 0} (num : Front C read_var_uint Num) where
     pub front_text : Front C read_text (Sized Num All-of)

@@ -1,4 +1,5 @@
 -- A layer by the kind, and every layer: a field is read just as the grammar spells it.
+use Rattle.std.specs.Prelude.{Option, None, Some}
 use Prim.Native.Nat.{ℕ, zero, suc, ◌^◌, ◌≤◌}
 use native.Mathlib.Omega.{arith}
 use mathlib.Core.Path.{◌≡◌, refl, sym, ap, subst, ◌∙◌}
@@ -14,8 +15,6 @@ use Rattle.format.specs.declared.Kind.{Kind}
 use Rattle.format.specs.declared.Kind.TheVariants.{Null, Object, UniformObject, Array, UniformArray, Binary, String, IntegerPositive, IntegerNegative}
 use Rattle.format.specs.declared.Kind.TheVariants.{Float32, Float64, False, True, ObjectAttachment, BinaryAttachment, Hash, Uuid, DateTime, TimeSpan}
 use Rattle.format.specs.declared.Kind.TheVariants.{ObjectId, CustomById, CustomByName}
-use Rattle.format.specs.declared.Known.{Known}
-use Rattle.format.specs.declared.Known.TheVariants.{Unknown, Is}
 use Rattle.format.specs.declared.Mark.TheVariants.{SharedByFields, SharedByItems}
 use Rattle.format.specs.declared.Form.{Form}
 use Rattle.format.specs.declared.Form.TheVariants.{Field, Item, SharedField, SharedItem}
@@ -83,10 +82,10 @@ module _ {C : List Flaw → Type 0} (clean : Clean C) {Num : ℕ → List ℕ �
     shared_fields_to [] h fs gs t y e c i d = never e
     shared_fields_to (b ∷ s) h fs gs t y e c i d = go (kind_at SharedByFields b) refl s y.1 e
       where
-        go : (o : Known) → kind_at SharedByFields b ≡ o → (s : List ℕ) → Bytes s → shared_fields_of o s ≡ got h fs [] → SharedFieldsSpell Num S t (b ∷ s)
-        go Unknown k s y e = never e
-        go (Is j) k [] y e = never e
-        go (Is j) k (a ∷ s) y e =
+        go : (o : Option Kind) → kind_at SharedByFields b ≡ o → (s : List ℕ) → Bytes s → shared_fields_of o s ≡ got h fs [] → SharedFieldsSpell Num S t (b ∷ s)
+        go None k s y e = never e
+        go (Some j) k [] y e = never e
+        go (Some j) k (a ∷ s) y e =
             let z : fields_in (SharedField j) (a ∷ s) ≡ h = cc in (
               j,
               a ∷ s,
@@ -96,7 +95,7 @@ module _ {C : List Flaw → Type 0} (clean : Clean C) {Num : ℕ → List ℕ �
                   (a ∷ s) t gs y (subst (λ h. contents p h ≡ got t gs []) (sym z) i) d,
             )
 
-    shared_more : (k : Kind) (s : List ℕ) → 1 ≤ length s → shared_fields_of (Is k) s ≡ got (fields_in (SharedField k) s) [] []
+    shared_more : (k : Kind) (s : List ℕ) → 1 ≤ length s → shared_fields_of (Some k) s ≡ got (fields_in (SharedField k) s) [] []
     shared_more k [] l = absurd (omega arith)
     shared_more k (b ∷ s) l = refl
 
@@ -110,7 +109,7 @@ module _ {C : List Flaw → Type 0} (clean : Clean C) {Num : ℕ → List ℕ �
     shared_items_to n [] h fs gs t y e i d = never e
     shared_items_to n (b ∷ s) h fs gs t y e i d = go n (kind_at SharedByItems b) refl e
       where
-        bare : (n : ℕ) (j : Kind) → kind_at SharedByItems b ≡ Is j → (x : Bool) → is_bare j ≡ x
+        bare : (n : ℕ) (j : Kind) → kind_at SharedByItems b ≡ Some j → (x : Bool) → is_bare j ≡ x
             → cond x (fault BadUniform) (got (items_in (SharedItem j) (suc n) s) [] []) ≡ got h fs [] → SharedItemsSpell Num S (suc n) t (b ∷ s)
         bare n j k true m e = never e
         bare n j k false m e =
@@ -124,10 +123,10 @@ module _ {C : List Flaw → Type 0} (clean : Clean C) {Num : ℕ → List ℕ �
                   (subst (λ h. contents p h ≡ got t gs []) (sym z) i) d,
             )
 
-        go : (n : ℕ) (o : Known) → kind_at SharedByItems b ≡ o → shared_items_of n o s ≡ got h fs [] → SharedItemsSpell Num S n t (b ∷ s)
-        go n Unknown k e = never e
-        go zero (Is j) k e = never e
-        go (suc n) (Is j) k e = bare n j k (is_bare j) refl e
+        go : (n : ℕ) (o : Option Kind) → kind_at SharedByItems b ≡ o → shared_items_of n o s ≡ got h fs [] → SharedItemsSpell Num S n t (b ∷ s)
+        go n None k e = never e
+        go zero (Some j) k e = never e
+        go (suc n) (Some j) k e = bare n j k (is_bare j) refl e
 
     shared_items_from : (n : ℕ) (j : Kind) (w b : List ℕ) → b ≡ type_byte SharedByItems j ∷ w → 1 ≤ n → (Bare j → ⊥)
         → read_shared_items n b ≡ got (items_in (SharedItem j) n w) [] []

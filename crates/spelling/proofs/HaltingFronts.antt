@@ -1,4 +1,5 @@
 -- The type byte, a text, a field's front and a leaf's payload stop exactly where specs/Halts.antt says.
+use Rattle.std.specs.Prelude.{None, Some, Option}
 use Prim.Native.Nat.{ℕ}
 use native.Mathlib.Omega.{arith}
 use mathlib.Core.Path.{◌≡◌, refl, sym, ap, subst, ◌∙◌}
@@ -8,8 +9,6 @@ use mathlib.Core.List.{List, [], ◌∷◌, ◌++◌}
 use Rattle.number.specs.BigEndian.{Bytes}
 use Rattle.text.specs.Utf8.{is_text}
 use Rattle.format.specs.declared.Kind.{Kind}
-use Rattle.format.specs.declared.Known.{Known}
-use Rattle.format.specs.declared.Known.TheVariants.{Unknown, Is}
 use Rattle.format.specs.declared.Mark.{Mark}
 use Rattle.format.specs.declared.Mark.TheVariants.{OfTop, OfField, OfItem}
 use Rattle.format.specs.declared.Form.{Form}
@@ -31,15 +30,15 @@ use Rattle.spelling.proofs.SpelledNumbers.{any_clean}
 use Rattle.spelling.proofs.Halting.{bind_fault, Halt, halt_as, halt_bind, halt_none, halt_make, halt_flag, halt_sized}
 use Rattle.spelling.proofs.HaltingNumbers.{halt_number}
 
-pub at_unknown : (m : Mark) (b : ℕ) → kind_at m b ≡ Unknown → (j : Kind) → b ≡ type_byte m j → ⊥
-at_unknown m b i j e = let z : kind_at m b ≡ Is j = ap (kind_at m) e ∙ kind_rt m j in let z' : ◌≡◌ {A = ℕ} 0 1 = cc in omega arith
+pub at_unknown : (m : Mark) (b : ℕ) → kind_at m b ≡ None → (j : Kind) → b ≡ type_byte m j → ⊥
+at_unknown m b i j e = let z : kind_at m b ≡ Some j = ap (kind_at m) e ∙ kind_rt m j in let z' : ◌≡◌ {A = ℕ} 0 1 = cc in omega arith
 
-pub unknown_at : (m : Mark) (b : ℕ) → ((j : Kind) → b ≡ type_byte m j → ⊥) → kind_at m b ≡ Unknown
+pub unknown_at : (m : Mark) (b : ℕ) → ((j : Kind) → b ≡ type_byte m j → ⊥) → kind_at m b ≡ None
 unknown_at m b f = go (kind_at m b) refl
   where
-    go : (o : Known) → kind_at m b ≡ o → o ≡ Unknown
-    go Unknown i = refl
-    go (Is j) i = absurd (f j (kind_inv m b j i))
+    go : (o : Option Kind) → kind_at m b ≡ o → o ≡ None
+    go None i = refl
+    go (Some j) i = absurd (f j (kind_inv m b j i))
 
 pub halt_type : (m : Mark) → Halt (read_type m) (TypeHalts m)
 halt_type m = record { to = to; from = from }
@@ -48,9 +47,9 @@ halt_type m = record { to = to; from = from }
     to [] k y e = inl (cc, refl)
     to (b ∷ s) k y e = go (kind_at m b) refl e
       where
-        go : (o : Known) → kind_at m b ≡ o → kind_found o s ≡ fault k → TypeHalts m k (b ∷ s)
-        go Unknown i h = inr (cc, b, s, refl, at_unknown m b i)
-        go (Is j) i h = never (sym h)
+        go : (o : Option Kind) → kind_at m b ≡ o → kind_found o s ≡ fault k → TypeHalts m k (b ∷ s)
+        go None i h = inr (cc, b, s, refl, at_unknown m b i)
+        go (Some j) i h = never (sym h)
 
     from : (k : Stop) (s : List ℕ) → TypeHalts m k s → read_type m s ≡ fault k
     from k s (inl i) = rw (i.0, i.1)

@@ -1,4 +1,5 @@
 -- A layer by the kind, a field, and every layer stop exactly where specs/Halts.antt says.
+use Rattle.std.specs.Prelude.{Option, None, Some}
 use Prim.Native.Nat.{ℕ, zero, suc, ◌^◌, ◌≤◌}
 use native.Mathlib.Omega.{arith}
 use mathlib.Core.Path.{◌≡◌, refl, sym, ap, ◌∙◌}
@@ -15,8 +16,6 @@ use Rattle.format.specs.declared.Kind.{Kind}
 use Rattle.format.specs.declared.Kind.TheVariants.{Null, Object, UniformObject, Array, UniformArray, Binary, String, IntegerPositive, IntegerNegative}
 use Rattle.format.specs.declared.Kind.TheVariants.{Float32, Float64, False, True, ObjectAttachment, BinaryAttachment, Hash, Uuid, DateTime, TimeSpan}
 use Rattle.format.specs.declared.Kind.TheVariants.{ObjectId, CustomById, CustomByName}
-use Rattle.format.specs.declared.Known.{Known}
-use Rattle.format.specs.declared.Known.TheVariants.{Unknown, Is}
 use Rattle.format.specs.declared.Mark.TheVariants.{SharedByFields, SharedByItems}
 use Rattle.format.specs.declared.Form.{Form}
 use Rattle.format.specs.declared.Form.TheVariants.{Field, Item, SharedField, SharedItem}
@@ -56,10 +55,10 @@ shared_fields_used : (b : List ℕ) (h : Head) (fs : List Flaw) (r : List ℕ) �
 shared_fields_used [] h fs r e = never e
 shared_fields_used (b ∷ s) h fs r e = go (kind_at SharedByFields b) s e
   where
-    go : (o : Known) (s : List ℕ) → shared_fields_of o s ≡ got h fs r → r ≡ []
-    go Unknown s e = never e
-    go (Is j) [] e = never e
-    go (Is j) (a ∷ s) e = cc
+    go : (o : Option Kind) (s : List ℕ) → shared_fields_of o s ≡ got h fs r → r ≡ []
+    go None s e = never e
+    go (Some j) [] e = never e
+    go (Some j) (a ∷ s) e = cc
 
 items_used : (b : List ℕ) (h : Head) (fs : List Flaw) (r : List ℕ) → read_items b ≡ got h fs r → r ≡ []
 items_used b h fs r e = bind_got (read_var_uint b) (λ n r. got (items_in Item n r) [] []) e λ n es q gs i j _. cc
@@ -72,10 +71,10 @@ shared_used n (b ∷ s) h fs r e = go n (kind_at SharedByItems b) e
     bare n j true e = never e
     bare n j false e = cc
 
-    go : (n : ℕ) (o : Known) → shared_items_of n o s ≡ got h fs r → r ≡ []
-    go n Unknown e = never e
-    go zero (Is j) e = never e
-    go (suc n) (Is j) e = bare n j (is_bare j) e
+    go : (n : ℕ) (o : Option Kind) → shared_items_of n o s ≡ got h fs r → r ≡ []
+    go n None e = never e
+    go zero (Some j) e = never e
+    go (suc n) (Some j) e = bare n j (is_bare j) e
 
 shared_items_used : (b : List ℕ) (h : Head) (fs : List Flaw) (r : List ℕ) → bind (read_var_uint b) read_shared_items ≡ got h fs r → r ≡ []
 shared_items_used b h fs r e = bind_got (read_var_uint b) read_shared_items e λ n es q gs i j _. shared_used n q h gs r j
@@ -109,11 +108,11 @@ module _ {X : Type 0} (p : Reader X) where
         to [] k y e = inl (inl (cc, refl))
         to (b ∷ s) k y e = go (kind_at SharedByFields b) refl s y.1 e
           where
-            go : (o : Known) → kind_at SharedByFields b ≡ o → (s : List ℕ) → Bytes s → bind (shared_fields_of o s) (λ h r. whole (contents p h) r) ≡ fault k
+            go : (o : Option Kind) → kind_at SharedByFields b ≡ o → (s : List ℕ) → Bytes s → bind (shared_fields_of o s) (λ h r. whole (contents p h) r) ≡ fault k
                 → SharedFieldsHalt H S k (b ∷ s)
-            go Unknown i s y e = inl (inr (cc, b, s, refl, at_unknown SharedByFields b i))
-            go (Is j) i [] y e = inr (j, [], ap (λ b. b ∷ []) (kind_inv SharedByFields b j i), inl (cc, refl))
-            go (Is j) i (a ∷ s) y e =
+            go None i s y e = inl (inr (cc, b, s, refl, at_unknown SharedByFields b i))
+            go (Some j) i [] y e = inr (j, [], ap (λ b. b ∷ []) (kind_inv SharedByFields b j i), inl (cc, refl))
+            go (Some j) i (a ∷ s) y e =
                 inr (
                   j,
                   a ∷ s,
@@ -123,7 +122,7 @@ module _ {X : Type 0} (p : Reader X) where
                 )
 
         some : (j : Kind) (t : List ℕ) (k : Stop) → ((k ≡ T.BadUniform) × (t ≡ [])) ⊎ FieldsHalt H S (SharedField j) k t
-            → bind (shared_fields_of (Is j) t) (λ h r. whole (contents p h) r) ≡ fault k
+            → bind (shared_fields_of (Some j) t) (λ h r. whole (contents p h) r) ≡ fault k
         some j t k (inl i) = rw (i.0, i.1)
         some j [] k (inr i) = absurd (omega (arith, i.5, simp length-append at (ap length i.3)))
         some j (a ∷ t) k (inr i) = (fields_halt p S H good halts (SharedField j) (some_shared j)).from k (a ∷ t) i
@@ -147,20 +146,20 @@ module _ {X : Type 0} (p : Reader X) where
             bare n j i false m e =
                 inr (j, s, ap (λ b. b ∷ s) i, inr (omega arith, (not_bare_exactly j).0 m, (items_halt p S H good halts (SharedItem j) (suc n)).to s k y.1 e))
 
-            go : (n : ℕ) (o : Known) → kind_at SharedByItems b ≡ o → bind (shared_items_of n o s) (λ h r. whole (contents p h) r) ≡ fault k
+            go : (n : ℕ) (o : Option Kind) → kind_at SharedByItems b ≡ o → bind (shared_items_of n o s) (λ h r. whole (contents p h) r) ≡ fault k
                 → SharedItemsHalt H S n k (b ∷ s)
-            go n Unknown i e = inl (inr (cc, b, s, refl, at_unknown SharedByItems b i))
-            go zero (Is j) i e = inr (j, s, ap (λ b. b ∷ s) (kind_inv SharedByItems b j i), inl (cc, inl refl))
-            go (suc n) (Is j) i e = bare n j (kind_inv SharedByItems b j i) (is_bare j) refl e
+            go n None i e = inl (inr (cc, b, s, refl, at_unknown SharedByItems b i))
+            go zero (Some j) i e = inr (j, s, ap (λ b. b ∷ s) (kind_inv SharedByItems b j i), inl (cc, inl refl))
+            go (suc n) (Some j) i e = bare n j (kind_inv SharedByItems b j i) (is_bare j) refl e
 
         some : (n : ℕ) (j : Kind) (t : List ℕ) (k : Stop)
             → ((k ≡ T.BadUniform) × ((n ≡ 0) ⊎ Bare j)) ⊎ ((1 ≤ n) × (Bare j → ⊥) × ItemsHalt H S (SharedItem j) n k t)
-            → bind (shared_items_of n (Is j) t) (λ h r. whole (contents p h) r) ≡ fault k
+            → bind (shared_items_of n (Some j) t) (λ h r. whole (contents p h) r) ≡ fault k
         some zero j t k (inl i) = rw i.0
         some zero j t k (inr i) = absurd (omega (arith, i.0))
         some (suc n) j t k (inl i) = go i.0 i.1
           where
-            go : k ≡ T.BadUniform → (suc n ≡ 0) ⊎ Bare j → bind (shared_items_of (suc n) (Is j) t) (λ h r. whole (contents p h) r) ≡ fault k
+            go : k ≡ T.BadUniform → (suc n ≡ 0) ⊎ Bare j → bind (shared_items_of (suc n) (Some j) t) (λ h r. whole (contents p h) r) ≡ fault k
             go e (inl z) = absurd (omega (arith, z))
             go e (inr m) = rw (e, (bare_exactly j).1 m)
         some (suc n) j t k (inr i) = rw ((not_bare_exactly j).1 i.1) ((items_halt p S H good halts (SharedItem j) (suc n)).from k t i.2)

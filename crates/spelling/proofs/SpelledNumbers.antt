@@ -9,10 +9,10 @@ use lib.ListN.{length, take, drop, get_or, take-append-drop}
 use lib.Seq.{take_at, drop_at, length-take-le, take-length, drop-length}
 use lib.Dec.{ltb, leb}
 use borrow.Author.Tests.{lt-ltb, leb-true, leb-false}
+use Rattle.number.proofs.AnswerLaws.{whole_same}
 use Rattle.number.proofs.Clash.{clash}
 use Rattle.number.specs.BigEndian.{Bytes}
-use Rattle.number.specs.VarUInt.{reached, bounds, bound, var_uint, form, encoded}
-use Rattle.number.specs.declared.VarUInt.TheVariants.{Whole}
+use Rattle.number.specs.VarUInt.{reached, bounds, bound, var_uint, form, encoded, whole}
 use Rattle.number.proofs.NumberThenLaws.{number_all}
 use Rattle.number.proofs.VarUIntLaws.{limit, limit_whole, needed_at, form_reads, form_length, measured, encoded_at, encoded_bytes, var_rt, var_form, var_range}
 use Rattle.number.proofs.VarUIntLaws.{var_local, var_inv}
@@ -64,23 +64,23 @@ no_long_clean = record {
 }
 
 -- what a VarUInt that stands alone is read as, with anything behind it
-number_from : (w : List ℕ) (v : ℕ) (m : Bool) → var_uint w ≡ Whole v (length w) m → (r : List ℕ) → read_var_uint (w ++ r) ≡ raise (not m) Long (got v [] r)
+number_from : (w : List ℕ) (v : ℕ) (m : Bool) → var_uint w ≡ whole v (length w) m → (r : List ℕ) → read_var_uint (w ++ r) ≡ raise (not m) Long (got v [] r)
 unfolding read_var_uint
 number_from w v m e r =
-    let l : var_uint (w ++ r) ≡ Whole v (length w) m = subst (λ u. var_uint (u ++ r) ≡ Whole v (length w) m) (take-length w) (var_local w v (length w) m e r) in
+    let l : var_uint (w ++ r) ≡ whole v (length w) m = subst (λ u. var_uint (u ++ r) ≡ whole v (length w) m) (take-length w) (var_local w v (length w) m e r) in
     rw (l, drop_at w r (length w) refl)
 
 number_to : {X : Type 0} (s : List ℕ) (v : ℕ) (fs : List Flaw) (r : List ℕ) → read_var_uint s ≡ got v fs r
-    → ((w : List ℕ) (m : Bool) → s ≡ w ++ r → var_uint w ≡ Whole v (length w) m → raise (not m) Long (got v [] r) ≡ got v fs r → X) → X
+    → ((w : List ℕ) (m : Bool) → s ≡ w ++ r → var_uint w ≡ whole v (length w) m → raise (not m) Long (got v [] r) ≡ got v fs r → X) → X
 unfolding read_var_uint
 number_to {X} s v fs r h k = number_all (λ o. o ≡ got v fs r → X) _ _ s never go h
   where
-    go : (u n : ℕ) (m : Bool) → var_uint s ≡ Whole u n m → raise (not m) Long (got u [] (drop n s)) ≡ got v fs r → X
+    go : (u n : ℕ) (m : Bool) → var_uint s ≡ whole u n m → raise (not m) Long (got u [] (drop n s)) ≡ got v fs r → X
     go u n m e h = raise_got (not m) Long (got u [] (drop n s)) h λ gs i.
         let y : drop n s ≡ r = cc in
         let x : u ≡ v = cc in
         let l : length (take n s) ≡ n = length-take-le n s (var_range s u n m e).2 in
-        let a : var_uint (take n s) ≡ Whole u n m = subst (λ z. var_uint z ≡ Whole u n m) (append_nil (take n s)) (var_local s u n m e []) in
+        let a : var_uint (take n s) ≡ whole u n m = subst (λ z. var_uint z ≡ whole u n m) (append_nil (take n s)) (var_local s u n m e []) in
         k (take n s) m (rw (← y) (sym (take-append-drop n s))) (rw (← x, l) a)
         (subst (λ z. raise (not m) Long (got z [] r) ≡ got v fs r) x (subst (λ z. raise (not m) Long (got u [] z) ≡ got v fs r) y h))
 
@@ -105,7 +105,7 @@ default_any (x ∷ l) (suc m) a b h = default_any l m a b (omega arith)
 
 encoded_any : (v : ℕ) → v < 2 ^ 64 → any_form v (encoded v)
 encoded_any v h =
-    let e : var_uint (encoded v) ≡ Whole v (length (encoded v)) true = rw append_nil at (var_rt v [] h) in
+    let e : var_uint (encoded v) ≡ whole v (length (encoded v)) true = rw append_nil at (var_rt v [] h) in
     let f = var_form (encoded v) v (length (encoded v)) true (encoded_bytes v h) e in
     (f.0, f.1, f.2, sym (take-length (encoded v)) ∙ f.3)
 
@@ -139,7 +139,7 @@ minimal_encoded v u i = (omega (arith, limit_whole f.0 f.1, f.2), go f.0 f.1 f.2
     go n l h e false k = absurd (shorter n l e (leb-false (bound n) v k))
 
 -- what is read is minimal exactly if no shorter form holds the value
-pub minimal_exactly : (s : List ℕ) (v n : ℕ) (m : Bool) → Bytes s → var_uint s ≡ Whole v n m → (m ≡ true) ↔ minimal_form v (take n s)
+pub minimal_exactly : (s : List ℕ) (v n : ℕ) (m : Bool) → Bytes s → var_uint s ≡ whole v n m → (m ≡ true) ↔ minimal_form v (take n s)
 minimal_exactly s v n m y e = (
   (λ h.
       let i = var_inv s v n y (rw h at e) in
@@ -147,8 +147,8 @@ minimal_exactly s v n m y e = (
   λ k.
       let i = minimal_encoded v (take n s) k in
       let j : encoded v ++ drop n s ≡ s = ap (λ u. u ++ drop n s) (sym i.1) ∙ take-append-drop n s in
-      let r : var_uint s ≡ Whole v (length (encoded v)) true = rw j at (var_rt v (drop n s) i.0) in
-      cc,
+      let r : var_uint s ≡ whole v (length (encoded v)) true = rw j at (var_rt v (drop n s) i.0) in
+      (whole_same v n m v (length (encoded v)) true (sym e ∙ r)).2,
 )
 
 pub any_number : Front Any read_var_uint any_form
@@ -159,7 +159,7 @@ any_number = record {
       λ v w x r. go v w (leb (bound x.0) v) (rw (x.3, form_length x.0 v) (rw (append_nil (form x.0 v)) at (form_reads x.0 v [] x.1 x.2))) r;
 }
   where
-    go : (v : ℕ) (w : List ℕ) (m : Bool) → var_uint w ≡ Whole v (length w) m → (r : List ℕ) → (fs : List Flaw) × Any fs × (read_var_uint (w ++ r) ≡ got v fs r)
+    go : (v : ℕ) (w : List ℕ) (m : Bool) → var_uint w ≡ whole v (length w) m → (r : List ℕ) → (fs : List Flaw) × Any fs × (read_var_uint (w ++ r) ≡ got v fs r)
     go v w true e r = ([], tt, number_from w v true e r)
     go v w false e r = (Long ∷ [], tt, number_from w v false e r)
 
@@ -169,7 +169,7 @@ encoded_number = record {
   from = λ v w x r. ([], refl, rw x.1 (number_rt v r x.0));
 }
   where
-    go : (v : ℕ) (w : List ℕ) (fs : List Flaw) (r : List ℕ) (m : Bool) → Bytes w → var_uint w ≡ Whole v (length w) m
+    go : (v : ℕ) (w : List ℕ) (fs : List Flaw) (r : List ℕ) (m : Bool) → Bytes w → var_uint w ≡ whole v (length w) m
         → raise (not m) Long (got v [] r) ≡ got v fs r → has Long fs ≡ false → Encoded v w
     go v w fs r true y e k c = let i = var_inv w v (length w) y e in (i.0, i.2 ∙ (ap (λ z. encoded v ++ z) (drop-length w) ∙ append_nil (encoded v)))
     go v w fs r false y e k c = clash cc

@@ -1,14 +1,14 @@
 -- The least beginning from a bound on, and that the least but one is the first twin of entries of one name.
-use Prim.Native.Nat.{ℕ, ◌+◌, ◌%◌, ◌≤◌, ◌<◌}
+use Prim.Native.Nat.{ℕ, min, ◌+◌, ◌≤◌, ◌<◌}
 use native.Mathlib.Omega.{arith}
-use native.Mathlib.Numerals.{add-one}
 use mathlib.Core.Path.{◌≡◌, refl, sym, ap, ◌∙◌}
 use mathlib.Core.Bool.{Bool, true, false, cond}
-use mathlib.Core.List.{List, [], ◌∷◌, ◌++◌}
-use lib.ListN.{length, take, get_or}
-use lib.Seq.{take-suc, take_all}
-use lib.Dec.{ltb}
-use borrow.Author.Tests.{ltb-true, ltb-false, lt-ltb, le-ltb}
+use mathlib.Core.List.{List, [], ◌∷◌, ◌++◌, map}
+use Rattle.std.specs.List.{filter, fold, reduce}
+use Rattle.std.specs.Option.{unwrap_or}
+use Rattle.std.proofs.lemmas.List.{append-nil, append_assoc}
+use lib.Dec.{ltb, leb}
+use borrow.Author.Tests.{ltb-true, ltb-false, lt-ltb, le-ltb, leb-true, leb-false}
 use Rattle.entries.specs.Entry.{begin_in, name_in}
 use Rattle.entries.specs.Least.{lesser, least}
 use Rattle.entries.specs.Among.{In, here, there}
@@ -33,12 +33,6 @@ none_in : (x : ℕ) → In x [] → ⊥
 none_in x = elim [ ]
 
 module _ (b bound r : ℕ) where
-  pub near_before : b < bound → r ≡ nearer b bound r
-  near_before l = rw (lt-ltb b bound l)
-
-  pub near_after : bound ≤ b → (q : ℕ) → q ≡ lesser b r → q ≡ nearer b bound r
-  near_after l q e = e ∙ sym (rw (le-ltb b bound l))
-
   near_few : nearer b bound r ≤ r
   near_few = go (ltb b bound)
     where
@@ -94,18 +88,6 @@ smallest_is bound (y ∷ t) = in_front_law t y bound (smallest bound t) (smalles
 pub one_smallest : (t : List ℕ) (bound a b : ℕ) → Smallest t bound a → Smallest t bound b → a ≡ b
 one_smallest t bound a b w v = omega (arith, upto t bound a b w v, upto t bound b a v w)
 
--- ---- the loop
-
-pub record Seeking (t : List ℕ) (bound r i : ℕ) : Type 0 where
-  pub within : i ≤ length t
-  pub is : Smallest (take i t) bound r
-
-pub seek_starts : (t : List ℕ) (bound : ℕ) → Seeking t bound 16777216 0
-seek_starts t bound = record {
-  within = omega arith;
-  is = record { most = omega arith; least = λ x i l. absurd (none_in x i); begun = λ l. absurd (omega arith) };
-}
-
 one_more_law : (t : List ℕ) (y bound r : ℕ) → Smallest t bound r → Smallest (t ++ (y ∷ [])) bound (nearer (begin_in y) bound r)
 one_more_law t y bound r w = record {
   most = omega (arith, near_few (begin_in y) bound r, w.most);
@@ -121,15 +103,47 @@ one_more_law t y bound r w = record {
         let b : Begun t bound r = w.begun (omega arith) in
         record { entry = b.entry; there = in_left t (y ∷ []) b.there; is = b.is ∙ sym e; late = omega (arith, b.late) }
 
-module _ (t : List ℕ) (bound r i : ℕ) (w : Seeking t bound r i) where
-  pub seek_on : i < length t → (b q : ℕ) → b ≡ get_or t i 0 % 16777216 → q ≡ nearer b bound r → Seeking t bound q (i + 1)
-  seek_on l b q d e = record {
-    within = omega arith;
-    is = rw (add-one i, take-suc t i 0 l, e, d) (one_more_law (take i t) (get_or t i 0) bound r w.is);
-  }
+-- ---- the least of those that begin from the bound on
 
-  pub seek_ends : length t ≤ i → r ≡ smallest bound t
-  seek_ends l = one_smallest t bound r (smallest bound t) (rw (take_all i t l) at w.is) (smallest_is bound t)
+module _ (bound : ℕ) where
+  abbrev pub late : List ℕ → List ℕ
+  late u = filter (λ b. leb bound b) (map begin_in u)
+
+  late_nearer : (b r : ℕ) → leb bound b ≡ true → nearer b bound r ≡ min r b
+  late_nearer b r e = rw (le-ltb b bound (leb-true bound b e)) (go (ltb b r) refl)
+    where
+      go : (o : Bool) → ltb b r ≡ o → cond o b r ≡ min r b
+      go true q = omega (arith, ltb-true b r q)
+      go false q = omega (arith, ltb-false b r q)
+
+  early_nearer : (b r : ℕ) → leb bound b ≡ false → nearer b bound r ≡ r
+  early_nearer b r e = rw (lt-ltb b bound (leb-false bound b e))
+
+  rest_law : (t u : List ℕ) (r : ℕ) → Smallest t bound r → Smallest (t ++ u) bound (fold min r (late u))
+  rest_law t [] r w = rw append-nil w
+  rest_law t (y ∷ u) r w =
+      go (leb bound (begin_in y)) refl (one_more_law t y bound r w) (λ q v. rw (← append_assoc t (y ∷ []) u) (rest_law (t ++ (y ∷ [])) u q v))
+    where
+      go : (o : Bool) → leb bound (begin_in y) ≡ o → Smallest (t ++ (y ∷ [])) bound (nearer (begin_in y) bound r)
+          → ((q : ℕ) → Smallest (t ++ (y ∷ [])) bound q → Smallest (t ++ (y ∷ u)) bound (fold min q (late u)))
+          → Smallest (t ++ (y ∷ u)) bound (fold min r (cond o (begin_in y ∷ late u) (late u)))
+      go true e v f = f (min r (begin_in y)) (rw (late_nearer (begin_in y) r e) at v)
+      go false e v f = f r (rw (early_nearer (begin_in y) r e) at v)
+
+  from_first : (u : List ℕ) → unwrap_or (reduce min (late u)) 16777216 ≡ fold min 16777216 (late u)
+  from_first [] = refl
+  from_first (y ∷ u) = go (leb bound (begin_in y)) (from_first u)
+    where
+      go : (o : Bool) → unwrap_or (reduce min (late u)) 16777216 ≡ fold min 16777216 (late u)
+          → unwrap_or (reduce min (cond o (begin_in y ∷ late u) (late u))) 16777216 ≡ fold min 16777216 (cond o (begin_in y ∷ late u) (late u))
+      go true e = ap (λ (n : ℕ). fold min n (late u)) (let z : begin_in y ≡ min 16777216 (begin_in y) = omega arith in z)
+      go false e = e
+
+  pub late_smallest : (t : List ℕ) → unwrap_or (reduce min (late t)) 16777216 ≡ smallest bound t
+  unfolding smallest
+  late_smallest t =
+      from_first t
+      ∙ one_smallest t bound (fold min 16777216 (late t)) (smallest bound t) (rest_law [] t 16777216 (smallest_is bound [])) (smallest_is bound t)
 
 -- ---- of entries of one name
 

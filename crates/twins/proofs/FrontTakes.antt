@@ -1,4 +1,5 @@
 -- A frame's kind and name by cases; and that what stands behind a name or a leaf is no longer than what stood before it.
+use Rattle.std.specs.Prelude.{Option, None, Some}
 use Prim.Native.Nat.{ℕ, ◌≤◌}
 use native.Mathlib.Omega.{arith}
 use mathlib.Core.Path.{◌≡◌, refl, ap}
@@ -6,8 +7,6 @@ use mathlib.Core.Bool.{Bool, true, false, ◌||◌, cond}
 use mathlib.Core.List.{List, [], ◌++◌}
 use lib.ListN.{length}
 use Rattle.format.specs.declared.Kind.{Kind}
-use Rattle.format.specs.declared.Known.{Known}
-use Rattle.format.specs.declared.Known.TheVariants.{Unknown, Is}
 use Rattle.format.specs.declared.Flaw.TheVariants.{Blank, Long, Low, NotUtf8}
 use Rattle.format.specs.Parse.{Out, fault, got, raise}
 use Rattle.format.specs.Names.{is_empty, read_text, read_name}
@@ -22,10 +21,10 @@ use Rattle.frames.specs.WriteList.{Frames, refused, framed, is_writable, frame_k
 use Rattle.frames.specs.FramePieces.{mode_of}
 use Rattle.frames.proofs.FrontLaws.{never}
 
-pub kind_elim : (f s : List ℕ) (o : Known) (M : Frames Kind → Type 0) → ((n : Refusal) (r : List ℕ) → M (refused n r)) → ((x : Kind) → M (framed x s))
+pub kind_elim : (f s : List ℕ) (o : Option Kind) (M : Frames Kind → Type 0) → ((n : Refusal) (r : List ℕ) → M (refused n r)) → ((x : Kind) → M (framed x s))
     → M (frame_kind f o s)
-kind_elim f s Unknown M a b = a BadFrame f
-kind_elim f s (Is x) M a b = at (is_writable (payload x))
+kind_elim f s None M a b = a BadFrame f
+kind_elim f s (Some x) M a b = at (is_writable (payload x))
   where
     at : (z : Bool) → M (cond z (framed x s) (refused BadFrame f))
     at true = b x

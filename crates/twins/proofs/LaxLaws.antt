@@ -1,4 +1,6 @@
 -- The lax reader never says that a name is used.
+use Rattle.std.specs.Prelude.{Option, None, Some}
+use Rattle.format.specs.declared.Kind.{Kind}
 use Prim.Native.Nat.{ℕ, zero, suc}
 use mathlib.Core.Path.{◌≡◌, refl, sym, ap, ◌∙◌}
 use mathlib.Core.Bool.{Bool, true, false, ◌||◌, cond}
@@ -6,8 +8,6 @@ use mathlib.Core.List.{List, [], ◌∷◌}
 use lib.ListN.{length}
 use lib.Dec.{eqb}
 use Rattle.number.proofs.Clash.{clash}
-use Rattle.format.specs.declared.Known.{Known}
-use Rattle.format.specs.declared.Known.TheVariants.{Unknown, Is}
 use Rattle.format.specs.declared.Flaw.TheVariants.{Blank, Long, Low, NotUtf8}
 use Rattle.format.specs.Kinds.{known}
 use Rattle.format.specs.Parse.{Out, fault, got}
@@ -49,9 +49,9 @@ unused_name f true s = go (read_name s)
     go (fault n) = refl
     go (got n fs r) = unused_cond (has Long fs) _ _ refl (unused_cond (has Blank fs) _ _ refl (unused_cond (has NotUtf8 fs) _ (framed n r) refl tt))
 
-unused_kind : (f : List ℕ) (o : Known) (s : List ℕ) → Unused (frame_kind f o s)
-unused_kind f Unknown s = refl
-unused_kind f (Is x) s = unused_cond (is_writable (payload x)) (framed x s) (refused BadFrame f) tt refl
+unused_kind : (f : List ℕ) (o : Option Kind) (s : List ℕ) → Unused (frame_kind f o s)
+unused_kind f None s = refl
+unused_kind f (Some x) s = unused_cond (is_writable (payload x)) (framed x s) (refused BadFrame f) tt refl
 
 -- ---- one layer
 

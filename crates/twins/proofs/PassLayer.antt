@@ -1,14 +1,13 @@
 -- Passing a frame without a check, if the frames in it are passed so. One layer.
+use Rattle.std.specs.Prelude.{Option, None, Some}
 use Prim.Native.Nat.{ℕ, ◌≤◌, ◌<◌}
 use native.Mathlib.Omega.{arith}
 use mathlib.Core.Path.{◌≡◌, refl, sym, ap, ◌∙◌}
 use mathlib.Core.Bool.{Bool, true, false, ◌||◌, cond}
-use mathlib.Core.Option.{Option, none, some}
+use mathlib.Core.Option.{Option as Optional, none, some}
 use mathlib.Core.List.{List, [], ◌∷◌, map}
 use lib.ListN.{length}
 use Rattle.format.specs.declared.Kind.{Kind}
-use Rattle.format.specs.declared.Known.{Known}
-use Rattle.format.specs.declared.Known.TheVariants.{Unknown, Is}
 use Rattle.format.specs.declared.Flaw.TheVariants.{Blank, Long, Low, NotUtf8}
 use Rattle.format.specs.Kinds.{known}
 use Rattle.format.specs.Parse.{Out, fault, got}
@@ -27,12 +26,12 @@ use Rattle.twins.proofs.FrontTakes.{leaf_le, read_le}
 use Rattle.twins.proofs.PassUntil.{Passes, Behind, until_less, until_passes}
 
 -- refused at the frame itself: nothing is asked
-own_refusal : {A : Type 0} (stop : ℕ) (m : Refusal) (f : List ℕ) (w : Option (List ℕ)) → Passes {A = A} stop f (refused m f) w
+own_refusal : {A : Type 0} (stop : ℕ) (m : Refusal) (f : List ℕ) (w : Optional (List ℕ)) → Passes {A = A} stop f (refused m f) w
 own_refusal stop m f w =
     record { on = λ v r h. never h; inside = λ n u h i d. absurd (let z : f ≡ u = cc in omega (arith, ap length z)); less = omega arith }
 
 -- something is made of what was read
-made_passes : {A B : Type 0} (stop : ℕ) (made : A → B) (f : List ℕ) (o : Frames A) (w : Option (List ℕ)) → Passes stop f o w
+made_passes : {A B : Type 0} (stop : ℕ) (made : A → B) (f : List ℕ) (o : Frames A) (w : Optional (List ℕ)) → Passes stop f o w
     → Passes stop f (next o λ v r. framed (made v) r) w
 made_passes stop made f (refused m u) w a = record {
   on = λ v r h. never h;
@@ -61,7 +60,7 @@ leaf_passes stop x q e f s c = go (q s) refl
             let w : leaf_found f (q s) ≡ framed v r = rw (j, ea, eb) in
             record { on = λ v₁ r₁ h i. let z : r ≡ r₁ = cc in ap some z; inside = λ n u h i d. never (sym h); less = omega (arith, leaf_le x q e f s w) }
 
-module _ {A : Type 0} (stop : ℕ) (l : LaxReader A) (p : Bool → List ℕ → Option (List ℕ))
+module _ {A : Type 0} (stop : ℕ) (l : LaxReader A) (p : Bool → List ℕ → Optional (List ℕ))
     (g : (named : Bool) (s : List ℕ) → Passes stop s (l named s) (p named s))
     (takes : (named : Bool) (s : List ℕ) (x : List ℕ × A) (r : List ℕ) → l named s ≡ framed x r → length r < length s) where
   -- ---- a payload at s of the frame f
@@ -71,7 +70,7 @@ module _ {A : Type 0} (stop : ℕ) (l : LaxReader A) (p : Bool → List ℕ → 
   contents_passes named f s c =
       go (until_close (λ u. l named) (length s) [] s) (until_passes stop l p g takes named (length s) [] s) (until_less stop l p g takes named (length s) [] s)
     where
-      w : Option (List ℕ)
+      w : Optional (List ℕ)
       w = pass_until (p named) stop (length s) s
 
       go : (o : Frames (List (List ℕ × A))) → Behind stop l p g takes o w → left_of o ≤ length s → Passes stop f o w
@@ -111,7 +110,7 @@ module _ {A : Type 0} (stop : ℕ) (l : LaxReader A) (p : Bool → List ℕ → 
       go (fault k) j = own_refusal stop BadFrame f none
       go (got n fs r) j = at (has Long fs) (has Blank fs) (has NotUtf8 fs)
         where
-          w : Option (List ℕ)
+          w : Optional (List ℕ)
           w = pass_payload p stop (payload x) r
 
           at : (a b d : Bool) → Passes stop f (next (cond a (refused BadFrame f) (cond b (refused EmptyName f) (cond d (refused NotText f) (framed n r))))
@@ -131,12 +130,12 @@ module _ {A : Type 0} (stop : ℕ) (l : LaxReader A) (p : Bool → List ℕ → 
       behind : Kind → List ℕ → Frames (List ℕ × Node A)
       behind x r = next (frame_name f (mode_of named []) r) λ n q. with_name n (frame_payload (heedless l) f (payload x) q)
 
-      passed : Kind → Option (List ℕ)
+      passed : Kind → Optional (List ℕ)
       passed x = onward none (name_rest named s) λ r. pass_payload p stop (payload x) r
 
-      go : (o : Known) → Passes stop f (next (frame_kind f o s) behind) (pass_known p stop named o s)
-      go Unknown = own_refusal stop BadFrame f none
-      go (Is x) = at (is_writable (payload x))
+      go : (o : Option Kind) → Passes stop f (next (frame_kind f o s) behind) (pass_known p stop named o s)
+      go None = own_refusal stop BadFrame f none
+      go (Some x) = at (is_writable (payload x))
         where
           at : (z : Bool) → Passes stop f (next (cond z (framed x s) (refused BadFrame f)) behind) (passed x)
           at true = behind_kind x named f s (omega arith)

@@ -1,4 +1,5 @@
 -- An object read frame by frame, whatever names it has so far: which of its frames were noted, and what the object comes to at the end.
+use Rattle.std.specs.Prelude.{Option, None, Some}
 use Prim.Native.Nat.{ℕ, zero, suc, ◌+◌, ◌-◌, ◌≤◌, ◌<◌}
 use native.Mathlib.Omega.{arith}
 use mathlib.Core.Path.{◌≡◌, refl, sym, ap, ◌∙◌}
@@ -8,8 +9,6 @@ use mathlib.Core.List.{List, [], ◌∷◌, ◌++◌}
 use lib.ListN.{length, drop}
 use Rattle.number.proofs.Clash.{clash}
 use Rattle.format.specs.declared.Kind.{Kind}
-use Rattle.format.specs.declared.Known.{Known}
-use Rattle.format.specs.declared.Known.TheVariants.{Unknown, Is}
 use Rattle.format.specs.declared.Flaw.{Flaw}
 use Rattle.format.specs.declared.Flaw.TheVariants.{Blank, Long, NotUtf8}
 use Rattle.format.specs.Mask.{has}
@@ -27,7 +26,6 @@ use Rattle.twins.specs.Events.{after}
 use Rattle.twins.specs.Own.{own_name, own_until, own_frames, freely}
 use Rattle.twins.specs.Walk.{onward}
 use Rattle.twins.proofs.OwnLaws.{object_own}
-use Rattle.names.specs.declared.Name.TheVariants as N
 use Rattle.passing.specs.Pass.{pass_over}
 use Rattle.passing.specs.FrameNames.{name_known, name_of, names_from, frame_names, name_at}
 use Rattle.passing.proofs.PassRead.{pass_read, read_name_law}
@@ -41,6 +39,8 @@ use Rattle.select.specs.Source.{entries_of}
 use Rattle.used.specs.Place.{frame_place}
 use Rattle.used.proofs.Chains.{Chain, stop, chain_more, chain_on, chain_entries}
 use Rattle.used.proofs.UsedLaws.{none_used, used_at_law}
+use Rattle.names.specs.declared.Name.{Name}
+use Rattle.std.specs.Prelude.{Some}
 
 -- ---- a frame up to its payload, and its name
 
@@ -70,11 +70,11 @@ front_name zero s n q k l h = absurd (omega arith)
 front_name (suc d) [] n q k l h = never h
 front_name (suc d) (b ∷ s) n q k l h = rw (kind_is b (b ∷ s) s) (go (writable b) (rw (kind_is b (b ∷ s) s) at h))
   where
-    go : (o : Known) → (next (kind_by (b ∷ s) o s) λ k r. with_kind k (frame_name (b ∷ s) (some []) r)) ≡ framed (n, k) q
+    go : (o : Option Kind) → (next (kind_by (b ∷ s) o s) λ k r. with_kind k (frame_name (b ∷ s) (some []) r)) ≡ framed (n, k) q
         → ((after none (kind_by (b ∷ s) o s) λ k r. after none (frame_name (b ∷ s) (some []) r) λ n q. some n) ≡ some n)
         × ((fs : List Flaw) × (name_known o s ≡ got n fs q))
-    go Unknown h = never h
-    go (Is j) h = next_got (frame_name (b ∷ s) (some []) s) _ h λ m r e i.
+    go None h = never h
+    go (Some j) h = next_got (frame_name (b ∷ s) (some []) s) _ h λ m r e i.
         let y : r ≡ q = cc in
         let z : ◌≡◌ {A = List ℕ × Kind} (m, j) (n, k) = cc in
         let x : m ≡ n = ap (λ p. p.0) z in
@@ -92,10 +92,10 @@ front_none (suc d) (b ∷ s) k f h = rw (kind_is b (b ∷ s) s) (go (writable b)
     by j (refused m r) h = refl
     by j (framed n q) h = clash cc
 
-    go : (o : Known) → (next (kind_by (b ∷ s) o s) λ k r. with_kind k (frame_name (b ∷ s) (some []) r)) ≡ refused k f
+    go : (o : Option Kind) → (next (kind_by (b ∷ s) o s) λ k r. with_kind k (frame_name (b ∷ s) (some []) r)) ≡ refused k f
         → (after none (kind_by (b ∷ s) o s) λ k r. after none (frame_name (b ∷ s) (some []) r) λ n q. some n) ≡ none
-    go Unknown h = refl
-    go (Is j) h = by j (frame_name (b ∷ s) (some []) s) h
+    go None h = refl
+    go (Some j) h = by j (frame_name (b ∷ s) (some []) s) h
 
 pub deep_none : (s : List ℕ) → own_name 0 s ≡ none
 unfolding own_name
@@ -150,9 +150,13 @@ module _ (d : ℕ) (s : List ℕ) where
         abbrev entry : ℕ
         entry = entry_of s (length s - length q - length n) (length s - length q)
 
+        -- it stands there, and the next frame behind it
+        abbrev named : ℕ → Name
+        named m = record { begin = length s - length q - length n; end = length s - length q; next = m }
+
         record Met : Type 0 where
           pub next : ℕ
-          pub found : name_at d a s ≡ N.At (length s - length q - length n) (length s - length q) next
+          pub found : name_at d a s ≡ Some (named next)
           pub is : between (length s - length q - length n) (length s - length q) s ≡ n
           pub onto : (u : List ℕ) → pass_over d true r ≡ some u → next ≡ length s - length u
 
@@ -161,9 +165,8 @@ module _ (d : ℕ) (s : List ℕ) where
         met =
             let v = front_name d r n q k l h in
             let j : name_of d (drop a s) ≡ got n v.1.0 q = rw e v.1.1 in
-            let g : name_at d a s ≡ N.At (length s - length q - length n) (length s - length q)
-            (onward (length s) (pass_over d true (drop a s)) λ u. length s - length u) = rw j in
-            let f = found_at d a s (chain_on d s (omega arith) w.chain).1 _ _ _ g in
+            let g : name_at d a s ≡ Some (named (onward (length s) (pass_over d true (drop a s)) λ u. length s - length u)) = rw j in
+            let f = found_at d a s (chain_on d s (omega arith) w.chain).1 _ g in
             record {
               next = onward (length s) (pass_over d true (drop a s)) (λ u. length s - length u);
               found = g;
@@ -178,10 +181,10 @@ module _ (d : ℕ) (s : List ℕ) where
         now_entered =
             let m = met in
             let i : a + 1 - 1 ≡ a = omega arith in
-            record { none = λ e. absurd (omega arith); some = λ l. rw i (chain_entries d s _ _ m.next w.chain m.found) }
+            record { none = λ e. absurd (omega arith); some = λ l. rw i (chain_entries d s (named m.next) w.chain m.found) }
 
         more : (m : Met) → Chain d s 0 (w.fs ++ ((r, n) ∷ [])) (es ++ (entry ∷ [])) m.next
-        more m = rw (← e) (rw m.is at (chain_more d s _ _ m.next w.chain m.found))
+        more m = rw (← e) (rw m.is at (chain_more d s (named m.next) w.chain m.found))
 
         -- it is refused behind its name: it is the last
         pub read_cut : (j : Refusal) (f : List ℕ) → read_frames d (some []) r ≡ refused j f → Ended (a + 1) (es ++ (entry ∷ []))

@@ -14,7 +14,6 @@ use Rattle.text.proofs.Laws.{equal_refl}
 use Rattle.format.specs.Kinds.{any}
 use Rattle.front.specs.Between.{between}
 use Rattle.twins.specs.Own.{first_used}
-use Rattle.names.specs.declared.Name.TheVariants as N
 use Rattle.passing.specs.FrameNames.{name_at}
 use Rattle.passing.proofs.NamesLaws.{found_at}
 use Rattle.entries.specs.Entry.{begin_in, bytes_in, name_in, entry_of}
@@ -25,6 +24,8 @@ use Rattle.entries.proofs.LeastLaws.{named_same, first_is, is_first_law, twin_in
 use Rattle.entries.proofs.Perms.{perm_middle, perm_in}
 use Rattle.used.specs.Place.{place_from, frame_place}
 use Rattle.used.proofs.Chains.{Chain, stop, link, Good, chain_good}
+use Rattle.names.specs.declared.Name.{Name}
+use Rattle.std.specs.Prelude.{Some}
 
 -- ---- an entry among others
 
@@ -96,61 +97,61 @@ module _ (d : ℕ) (s : List ℕ) (short : length s < 16777216) (t : List ℕ) (
   abbrev names_in : List ℕ → List (List ℕ)
   names_in us = map (λ x. bytes_in s x) us
 
-  module _ {a b e n z : ℕ} {gs : List (List ℕ × List ℕ)} {es : List ℕ} (us : List ℕ) (l : a ≤ length s) (h : name_at d a s ≡ N.At b e n)
-      (c : Chain d s n gs es z)
-      (w : Before a us (entry_of s b e ∷ es)) where
+  module _ {a z : ℕ} {name : Name} {gs : List (List ℕ × List ℕ)} {es : List ℕ} (us : List ℕ) (l : a ≤ length s) (h : name_at d a s ≡ Some name)
+      (c : Chain d s name.next gs es z)
+      (w : Before a us (entry_of s name.begin name.end ∷ es)) where
     record Stands : Type 0 where
-      pub behind : a < b
-      pub before : b ≤ n
-      pub inside : n ≤ length s
-      pub onward : a < n
-      pub begin : begin_in (entry_of s b e) ≡ b
-      pub bytes : bytes_in s (entry_of s b e) ≡ between b e s
+      pub behind : a < name.begin
+      pub before : name.begin ≤ name.next
+      pub inside : name.next ≤ length s
+      pub onward : a < name.next
+      pub begin : begin_in (entry_of s name.begin name.end) ≡ name.begin
+      pub bytes : bytes_in s (entry_of s name.begin name.end) ≡ between name.begin name.end s
 
     stands : Stands
     stands =
-        let f = found_at d a s l b e n h in
-        let i : e ≤ length s = omega (arith, f.before, f.inside) in
+        let f = found_at d a s l name h in
+        let i : name.end ≤ length s = omega (arith, f.before, f.inside) in
         record {
           behind = f.begins;
           before = omega (arith, f.ordered, f.before);
           inside = f.inside;
           onward = f.onward;
-          begin = entry_begins s b e f.ordered i short;
-          bytes = entry_bytes s b e f.ordered i short;
+          begin = entry_begins s name.begin name.end f.ordered i short;
+          bytes = entry_bytes s name.begin name.end f.ordered i short;
         }
 
-    before_more : Before n (entry_of s b e ∷ us) es
+    before_more : Before name.next (entry_of s name.begin name.end ∷ us) es
     before_more =
         let p = stands in
         record {
-          inside = λ x i. in_first x (entry_of s b e) us i (λ q. rw q (w.rest (entry_of s b e) here)) (λ j. w.inside x j);
-          back = λ x i. in_first x (entry_of s b e) us i (λ q. let u : begin_in x ≡ b = ap begin_in q ∙ p.begin in omega (arith, p.before))
+          inside = λ x i. in_first x (entry_of s name.begin name.end) us i (λ q. rw q (w.rest (entry_of s name.begin name.end) here)) (λ j. w.inside x j);
+          back = λ x i. in_first x (entry_of s name.begin name.end) us i (λ q. let u : begin_in x ≡ name.begin = ap begin_in q ∙ p.begin in omega (arith, p.before))
               (λ j. omega (arith, w.back x j, p.onward));
-          all = λ x i. perm_in (perm_middle (entry_of s b e) us es) (w.all x i);
+          all = λ x i. perm_in (perm_middle (entry_of s name.begin name.end) us es) (w.all x i);
           rest = λ x i. w.rest x (there i);
         }
 
     -- its name was used exactly if its entry is a twin
-    used_twin : any (equal (between b e s)) (names_in us) ≡ is_twin s t (entry_of s b e)
-    used_twin = both_ways (any (equal (between b e s)) (names_in us)) (is_twin s t (entry_of s b e)) to from
+    used_twin : any (equal (between name.begin name.end s)) (names_in us) ≡ is_twin s t (entry_of s name.begin name.end)
+    used_twin = both_ways (any (equal (between name.begin name.end s)) (names_in us)) (is_twin s t (entry_of s name.begin name.end)) to from
       where
         p : Stands
         p = stands
 
-        to : any (equal (between b e s)) (names_in us) ≡ true → is_twin s t (entry_of s b e) ≡ true
-        to q = any_in s (between b e s) us q λ x i k.
-            let m : equal (bytes_in s (entry_of s b e)) (bytes_in s x) ≡ true = rw p.bytes k in
-            let v = good_same s x (entry_of s b e) short (good x (w.inside x i)) (good (entry_of s b e) (w.rest (entry_of s b e) here)) m in
-            twin_in s t x (entry_of s b e) (w.inside x i) (is_first_law s x (entry_of s b e) (omega (arith, w.back x i, p.behind, p.begin)) (sym v))
+        to : any (equal (between name.begin name.end s)) (names_in us) ≡ true → is_twin s t (entry_of s name.begin name.end) ≡ true
+        to q = any_in s (between name.begin name.end s) us q λ x i k.
+            let m : equal (bytes_in s (entry_of s name.begin name.end)) (bytes_in s x) ≡ true = rw p.bytes k in
+            let v = good_same s x (entry_of s name.begin name.end) short (good x (w.inside x i)) (good (entry_of s name.begin name.end) (w.rest (entry_of s name.begin name.end) here)) m in
+            twin_in s t x (entry_of s name.begin name.end) (w.inside x i) (is_first_law s x (entry_of s name.begin name.end) (omega (arith, w.back x i, p.behind, p.begin)) (sym v))
 
-        from : is_twin s t (entry_of s b e) ≡ true → any (equal (between b e s)) (names_in us) ≡ true
-        from q = twin_is s t (entry_of s b e) q λ x i k.
-            let v = first_is s x (entry_of s b e) k in
-            in_either x us (entry_of s b e ∷ es) (w.all x i)
-            (λ j. in_any s (between b e s) us x j (rw (← p.bytes, same_bytes s x (entry_of s b e) v.1) (equal_refl (bytes_in s (entry_of s b e)))))
-            (λ j. in_first x (entry_of s b e) es j
-            (λ r. absurd (let u : begin_in x ≡ begin_in (entry_of s b e) = ap begin_in r in omega (arith, v.0)))
+        from : is_twin s t (entry_of s name.begin name.end) ≡ true → any (equal (between name.begin name.end s)) (names_in us) ≡ true
+        from q = twin_is s t (entry_of s name.begin name.end) q λ x i k.
+            let v = first_is s x (entry_of s name.begin name.end) k in
+            in_either x us (entry_of s name.begin name.end ∷ es) (w.all x i)
+            (λ j. in_any s (between name.begin name.end s) us x j (rw (← p.bytes, same_bytes s x (entry_of s name.begin name.end) v.1) (equal_refl (bytes_in s (entry_of s name.begin name.end)))))
+            (λ j. in_first x (entry_of s name.begin name.end) es j
+            (λ r. absurd (let u : begin_in x ≡ begin_in (entry_of s name.begin name.end) = ap begin_in r in omega (arith, v.0)))
             (λ r. absurd (omega (arith, v.0, p.begin, p.before, (chain_good d s short p.inside c x r).1))))
 
   -- ---- what is told of them
@@ -167,63 +168,63 @@ module _ (d : ℕ) (s : List ℕ) (short : length s < 16777216) (t : List ℕ) (
       go true e = refl
       go false e = omega (arith, ltb-false b m e)
 
-  place_at_law : (a b e n g k : ℕ) → name_at d a s ≡ N.At b e n → g ≤ b → place_from d s g k a ≡ a
+  place_at_law : (a : ℕ) (name : Name) (g k : ℕ) → name_at d a s ≡ Some name → g ≤ name.begin → place_from d s g k a ≡ a
   unfolding place_from
-  place_at_law a b e n g zero h l = refl
-  place_at_law a b e n g (suc k) h l = rw (h, le-leb g b l)
+  place_at_law a name g zero h l = refl
+  place_at_law a name g (suc k) h l = rw (h, le-leb g name.begin l)
 
-  place_behind : (a b e n g k : ℕ) → name_at d a s ≡ N.At b e n → b < g → place_from d s g (suc k) a ≡ place_from d s g k n
+  place_behind : (a : ℕ) (name : Name) (g k : ℕ) → name_at d a s ≡ Some name → name.begin < g → place_from d s g (suc k) a ≡ place_from d s g k name.next
   unfolding place_from
-  place_behind a b e n g k h l = rw (h, lt-leb g b l)
+  place_behind a name g k h l = rw (h, lt-leb g name.begin l)
 
-  module _ (a b e n : ℕ) (gs : List (List ℕ × List ℕ)) (es : List ℕ) (used : List (List ℕ)) (h : name_at d a s ≡ N.At b e n)
-      (behind : a < b) (before : b ≤ n) (inside : n ≤ length s) (onward : a < n) (begin : begin_in (entry_of s b e) ≡ b) where
+  module _ (a : ℕ) (name : Name) (gs : List (List ℕ × List ℕ)) (es : List ℕ) (used : List (List ℕ)) (h : name_at d a s ≡ Some name)
+      (behind : a < name.begin) (before : name.begin ≤ name.next) (inside : name.next ≤ length s) (onward : a < name.next) (begin : begin_in (entry_of s name.begin name.end) ≡ name.begin) where
     abbrev Behind : Type 0
-    Behind = Verdict n gs es (between b e s ∷ used)
+    Behind = Verdict name.next gs es (between name.begin name.end s ∷ used)
 
     abbrev Here : Type 0
-    Here = Verdict a ((drop a s, between b e s) ∷ gs) (entry_of s b e ∷ es) used
+    Here = Verdict a ((drop a s, between name.begin name.end s) ∷ gs) (entry_of s name.begin name.end ∷ es) used
 
-    later : Behind → b ≤ least_of s t es
+    later : Behind → name.begin ≤ least_of s t es
     later (clear i j) = omega (arith, begin)
     later (twin q l i j k m) = omega arith
 
-    verdict_twin : is_twin s t (entry_of s b e) ≡ true → any (equal (between b e s)) used ≡ true → b ≤ least_of s t es → Here
+    verdict_twin : is_twin s t (entry_of s name.begin name.end) ≡ true → any (equal (between name.begin name.end s)) used ≡ true → name.begin ≤ least_of s t es → Here
     unfolding first_used least_of
     verdict_twin i u m =
-        let g : least_of s t (entry_of s b e ∷ es) ≡ b = rw (i, begin) (lesser_first b (least_of s t es) m) in
-        twin a (omega arith) (rw u) (omega arith) (omega (arith, begin)) (λ k j. place_at_law a b e n (least_of s t (entry_of s b e ∷ es)) k h (omega arith))
+        let g : least_of s t (entry_of s name.begin name.end ∷ es) ≡ name.begin = rw (i, begin) (lesser_first name.begin (least_of s t es) m) in
+        twin a (omega arith) (rw u) (omega arith) (omega (arith, begin)) (λ k j. place_at_law a name (least_of s t (entry_of s name.begin name.end ∷ es)) k h (omega arith))
 
-    verdict_other : is_twin s t (entry_of s b e) ≡ false → any (equal (between b e s)) used ≡ false → Behind → Here
+    verdict_other : is_twin s t (entry_of s name.begin name.end) ≡ false → any (equal (between name.begin name.end s)) used ≡ false → Behind → Here
     unfolding first_used least_of
     verdict_other i u (clear j m) = clear (rw u j) (rw i m)
     verdict_other i u (twin q l j m r f) =
-        let g : least_of s t (entry_of s b e ∷ es) ≡ least_of s t es = rw i in
+        let g : least_of s t (entry_of s name.begin name.end ∷ es) ≡ least_of s t es = rw i in
         twin q l (rw u j) (omega arith) (omega arith) (λ k v. on k v g)
       where
-        on : (k : ℕ) → length s ≤ a + k → least_of s t (entry_of s b e ∷ es) ≡ least_of s t es → place_from d s (least_of s t (entry_of s b e ∷ es)) k a ≡ q
+        on : (k : ℕ) → length s ≤ a + k → least_of s t (entry_of s name.begin name.end ∷ es) ≡ least_of s t es → place_from d s (least_of s t (entry_of s name.begin name.end ∷ es)) k a ≡ q
         on zero v g = absurd (omega arith)
-        on (suc k) v g = rw g (place_behind a b e n (least_of s t es) k h (omega arith) ∙ f k (omega arith))
+        on (suc k) v g = rw g (place_behind a name (least_of s t es) k h (omega arith) ∙ f k (omega arith))
 
   verdict : (a : ℕ) (us : List ℕ) {z : ℕ} {gs : List (List ℕ × List ℕ)} {es : List ℕ} → a ≤ length s → Chain d s a gs es z → Before a us es
       → Verdict a gs es (names_in us)
   unfolding first_used least_of
   verdict a us l stop w = clear refl refl
-  verdict a us l (link {b = b} {e = e} {n = n} {gs = gs} {es = es} h c) w =
+  verdict a us l (link {p = name} {gs = gs} {es = es} h c) w =
       let p = stands us l h c w in
-      let v : Verdict n gs es (between b e s ∷ names_in us) =
-      ap_names p.bytes (verdict n (entry_of s b e ∷ us) p.inside c (before_more us l h c w)) in
-      go (is_twin s t (entry_of s b e)) refl (used_twin us l h c w) v p.behind p.before p.inside p.onward p.begin
+      let v : Verdict name.next gs es (between name.begin name.end s ∷ names_in us) =
+      ap_names p.bytes (verdict name.next (entry_of s name.begin name.end ∷ us) p.inside c (before_more us l h c w)) in
+      go (is_twin s t (entry_of s name.begin name.end)) refl (used_twin us l h c w) v p.behind p.before p.inside p.onward p.begin
     where
-      ap_names : {m k : List ℕ} {ns : List (List ℕ)} → m ≡ k → Verdict n gs es (m ∷ ns) → Verdict n gs es (k ∷ ns)
+      ap_names : {m k : List ℕ} {ns : List (List ℕ)} → m ≡ k → Verdict name.next gs es (m ∷ ns) → Verdict name.next gs es (k ∷ ns)
       ap_names {ns = ns} q v = rw (← q) v
 
-      go : (o : Bool) → is_twin s t (entry_of s b e) ≡ o → any (equal (between b e s)) (names_in us) ≡ is_twin s t (entry_of s b e)
-          → Verdict n gs es (between b e s ∷ names_in us)
-          → a < b → b ≤ n → n ≤ length s → a < n → begin_in (entry_of s b e) ≡ b → Verdict a ((drop a s, between b e s) ∷ gs) (entry_of s b e ∷ es) (names_in us)
+      go : (o : Bool) → is_twin s t (entry_of s name.begin name.end) ≡ o → any (equal (between name.begin name.end s)) (names_in us) ≡ is_twin s t (entry_of s name.begin name.end)
+          → Verdict name.next gs es (between name.begin name.end s ∷ names_in us)
+          → a < name.begin → name.begin ≤ name.next → name.next ≤ length s → a < name.next → begin_in (entry_of s name.begin name.end) ≡ name.begin → Verdict a ((drop a s, between name.begin name.end s) ∷ gs) (entry_of s name.begin name.end ∷ es) (names_in us)
       go true i u v x₁ x₂ x₃ x₄ x₅ =
-          verdict_twin a b e n gs es (names_in us) h x₁ x₂ x₃ x₄ x₅ i (u ∙ i) (later a b e n gs es (names_in us) h x₁ x₂ x₃ x₄ x₅ v)
-      go false i u v x₁ x₂ x₃ x₄ x₅ = verdict_other a b e n gs es (names_in us) h x₁ x₂ x₃ x₄ x₅ i (u ∙ i) v
+          verdict_twin a name gs es (names_in us) h x₁ x₂ x₃ x₄ x₅ i (u ∙ i) (later a name gs es (names_in us) h x₁ x₂ x₃ x₄ x₅ v)
+      go false i u v x₁ x₂ x₃ x₄ x₅ = verdict_other a name gs es (names_in us) h x₁ x₂ x₃ x₄ x₅ i (u ∙ i) v
 
 -- ---- all frames of the object
 

@@ -1,14 +1,13 @@
 -- Where the first frame stands whose name begins at a place of the part or behind it, among the frames of an object, which stand in the part one after another
 -- with so many levels left.
-use Rattle.std.specs.Prelude.{ℕ, zero, suc, cond, List, length, leb}
-use Rattle.names.specs.declared.Name.{Name}
-use Rattle.names.specs.declared.Name.TheVariants as N
+use Rattle.std.specs.Prelude.{ℕ, zero, suc, cond, List, length, leb, Some, Option, None}
 use Rattle.passing.specs.FrameNames.{name_at}
+use Rattle.names.specs.declared.Name.{Name}
 
 -- what is read at a: no frame more, or one that is the one, or one before those behind it
-abbrev pub place_at : ℕ → ℕ → Name → (ℕ → ℕ) → ℕ
-place_at g a N.Nothing more = a
-place_at g a (N.At b e n) more = cond (leb g b) a (more n)
+abbrev pub place_at : ℕ → ℕ → Option Name → (ℕ → ℕ) → ℕ
+place_at g a None more = a
+place_at g a (Some p) more = cond (leb g p.begin) a (more p.next)
 
 -- from a position on: the first frame whose name begins at g or behind it; where the frames end, if none does. The number bounds how many, and the length is
 -- enough

@@ -4,29 +4,20 @@
 ghost use Rattle.std.specs.Prelude.{◌≡◌};
 ghost use Rattle.used.specs.Place.{frame_place};
 
-use names::Name;
-
 // The first frame of the part whose name begins at a place or behind it; where the frames end, if none does.
+#[tactic(auto, using(crate::proofs::PlaceReturns::place_laws))]
 pub fn place_of(part: &[u8], left: u32, begin: usize) -> usize
     ensures { result ≡ frame_place left part.now begin }
 {
     let mut at = 0;
     while at < part.len() {
-        match passing::name_at(part, at, left) {
-            Name::Nothing => {
-                return at;
-            }
-            Name::At {
-                begin: from,
-                end: _,
-                next,
-            } => {
-                if begin <= from {
-                    return at;
-                }
-                at = next;
-            }
+        let Some(name) = passing::name_at(part, at, left) else {
+            return at;
+        };
+        if begin <= name.begin {
+            return at;
         }
+        at = name.next;
     }
     at
 }

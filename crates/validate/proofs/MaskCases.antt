@@ -1,4 +1,5 @@
 -- The mask: what the code knows at each return.
+use Rattle.std.specs.Prelude.{Result, Err, Ok}
 use Prim.Native.Nat.{ℕ, ◌+◌, ◌-◌, ◌≤◌, ◌<◌}
 use native.Mathlib.Omega.{arith}
 use mathlib.Core.Path.{◌≡◌, refl, sym, ap, ◌∙◌}
@@ -21,14 +22,15 @@ use Rattle.format.specs.Reader.{Named, Standing, Layout, read}
 use Rattle.faults.specs.Noted.{nothing, asks, noted, sum_in}
 use Rattle.front.specs.Code.{answer_of}
 use Rattle.faults.proofs.SumLaws.{noted_sum, sum_fits}
-use Rattle.contents.specs.declared.Field.{Field}
-use Rattle.contents.specs.declared.Field.TheVariants as F
 use Rattle.checks.specs.Checks.{field_at}
 use Rattle.validate.specs.Asked.{asked, top_at, Masked, mask_with}
 use Rattle.checks.specs.Checks.{namelessly}
 use Rattle.names.proofs.ReadNames.{read_ends}
 use Rattle.faults.specs.declared.Modes.{Modes}
 use Rattle.named.specs.Top.{top_within, Checked, top_with}
+use Rattle.contents.specs.declared.Field.{Field}
+use Rattle.contents.specs.Made.{field_read}
+use Rattle.contents.proofs.MadeLaws.{field_same}
 
 pub mask_long : (n : ℕ) (s : List ℕ) → length_limit < length s → (v : ℕ) → v ≡ stop_value TooLong → v ≡ mask n s
 unfolding mask
@@ -52,55 +54,56 @@ padding n s w (b ∷ r) e =
     at true = refl
     at false = refl
 
-module _ (n : ℕ) (s : List ℕ) (short : length s ≤ length_limit) (x : Field) (field : x ≡ top_at n s) where
+module _ (n : ℕ) (s : List ℕ) (short : length s ≤ length_limit) (x : Result Field Stop) (field : x ≡ top_at n s) where
   within : mask n s ≡ mask_of n (read depth_limit Top s)
   unfolding mask
   within = rw (le-ltb length_limit (length s) short)
 
-  pub mask_stop : (j : Stop) → x ≡ F.Stop j → (v : ℕ) → v ≡ stop_value j → v ≡ mask n s
+  pub mask_stop : (j : Stop) → x ≡ Err j → (v : ℕ) → v ≡ stop_value j → v ≡ mask n s
   unfolding field_at
   mask_stop j i v k = k ∙ sym (within ∙ at (read depth_limit Top s) (sym i ∙ field))
     where
       at : (o : Out (Named (Standing (Layout depth_limit))))
-          → F.Stop j ≡ answer_of F.Stop (λ x h r. F.Read x.1.0 (length s - length r) h) (asked n) nothing o → mask_of n o ≡ stop_value j
+          → Err j ≡ answer_of Err (λ x h r. field_read x.1.0 (length s - length r) h) (asked n) nothing o → mask_of n o ≡ stop_value j
       at (fault l) z = let y : j ≡ l = cc in rw y
       at (got y fs r) z = clash cc
 
   -- the sum has its place in 32 bits, with 4096 beside it
-  pub mask_fits : (k : Kind) (a : ℕ) (h : Faults) → x ≡ F.Read k a h → (u : ℕ) → u ≡ sum_in h → u ≤ 2032
+  pub mask_fits : (p : Field) → x ≡ Ok p → (u : ℕ) → u ≡ sum_in p.faults → u ≤ 2032
   unfolding field_at
-  mask_fits k a h i u j = rw j (at (read depth_limit Top s) (sym i ∙ field))
+  mask_fits p i u j = rw j (at (read depth_limit Top s) (sym i ∙ field))
     where
       at : (o : Out (Named (Standing (Layout depth_limit))))
-          → F.Read k a h ≡ answer_of F.Stop (λ x h r. F.Read x.1.0 (length s - length r) h) (asked n) nothing o → sum_in h ≤ 2032
+          → Ok p ≡ answer_of Err (λ x h r. field_read x.1.0 (length s - length r) h) (asked n) nothing o → sum_in p.faults ≤ 2032
       at (fault l) z = clash cc
-      at (got y fs r) z = let w : h ≡ noted (asked n) nothing fs = cc in rw (w, noted_sum (asked n) fs) (sum_fits (λ f. asks (asked n) f && has f fs))
+      at (got y fs r) z =
+          let same = field_same p (field_read y.1.0 (length s - length r) (noted (asked n) nothing fs)) z in
+          rw (same.2, noted_sum (asked n) fs) (sum_fits (λ f. asks (asked n) f && has f fs))
 
-  pub mask_read : (k : Kind) (a : ℕ) (h : Faults) → x ≡ F.Read k a h → (b₃ : Bool) → b₃ ≡ is_asked n padding_mode → (u v : ℕ) → u ≡ sum_in h
-      → v ≡ cond (b₃ && ltb a (length s)) 4096 0
+  pub mask_read : (p : Field) → x ≡ Ok p → (b₃ : Bool) → b₃ ≡ is_asked n padding_mode → (u v : ℕ) → u ≡ sum_in p.faults
+      → v ≡ cond (b₃ && ltb p.end (length s)) 4096 0
       → u + v ≡ mask n s
   unfolding field_at
-  mask_read k a h i b₃ i₃ u v j₁ j₂ = rw (j₁, j₂, i₃) (sym (within ∙ at (read depth_limit Top s) refl (sym i ∙ field)))
+  mask_read p i b₃ i₃ u v j₁ j₂ = rw (j₁, j₂, i₃) (sym (within ∙ at (read depth_limit Top s) refl (sym i ∙ field)))
     where
       at : (o : Out (Named (Standing (Layout depth_limit)))) → read depth_limit Top s ≡ o
-          → F.Read k a h ≡ answer_of F.Stop (λ x h r. F.Read x.1.0 (length s - length r) h) (asked n) nothing o
-          → mask_of n o ≡ sum_in h + cond (is_asked n padding_mode && ltb a (length s)) 4096 0
+          → Ok p ≡ answer_of Err (λ x h r. field_read x.1.0 (length s - length r) h) (asked n) nothing o
+          → mask_of n o ≡ sum_in p.faults + cond (is_asked n padding_mode && ltb p.end (length s)) 4096 0
       at (fault l) z y = clash cc
       at (got y fs r) z w =
-          let w₁ : h ≡ noted (asked n) nothing fs = cc in
-          let w₂ : a ≡ length s - length r = cc in
+          let same = field_same p (field_read y.1.0 (length s - length r) (noted (asked n) nothing fs)) w in
           let t = read_ends depth_limit Top s z in
-          rw (w₁, w₂, sum_noted n fs, padding n s t.0 r t.1)
+          rw (same.2, same.1, sum_noted n fs, padding n s t.0 r t.1)
 
 -- ---- the top field's check
 
 -- names are not asked about
 pub top_nameless : (n : ℕ) (s : List ℕ) (g : Faults) → g ≡ nothing → (b₂ : Bool) → b₂ ≡ is_asked n format_mode → (l : ℕ) → l ≡ depth_limit
-    → is_asked n names_mode ≡ false → (x : Field) → x ≡ field_at Top (namelessly b₂) l g s → x ≡ top_at n s
+    → is_asked n names_mode ≡ false → (x : Result Field Stop) → x ≡ field_at Top (namelessly b₂) l g s → x ≡ top_at n s
 top_nameless n s g i₀ b₂ i₂ l i₁ e x h = rw (i₀, i₁, i₂, ← e) at h
 
 -- they are
-pub top_named : (n : ℕ) (s : List ℕ) → length s ≤ length_limit → (m : Modes) → m ≡ asked n → (x : Field) → x ≡ top_within m s → x ≡ top_at n s
+pub top_named : (n : ℕ) (s : List ℕ) → length s ≤ length_limit → (m : Modes) → m ≡ asked n → (x : Result Field Stop) → x ≡ top_within m s → x ≡ top_at n s
 unfolding top_within
 top_named n s short m e x h = rw (e, le-ltb length_limit (length s) short) at h
 
@@ -112,13 +115,13 @@ not_asked n o e h = sym e ∙ h
 
 -- ---- with a table
 
-pub top_with_law : (n : ℕ) (s t : List ℕ) → length s ≤ length_limit → (m : Modes) → m ≡ asked n → (x : Field) (t' : List ℕ)
+pub top_with_law : (n : ℕ) (s t : List ℕ) → length s ≤ length_limit → (m : Modes) → m ≡ asked n → (x : Result Field Stop) (t' : List ℕ)
     → ◌≡◌ {A = Checked} (record { answer = x; table = t' }) (top_with m s t) → x ≡ top_at n s
 unfolding top_with
 top_with_law n s t short m e x t' h = top_named n s short m e x (ap (λ z. z.answer) h)
 
 -- the table was cleared by the check, or by the call
-pub cleared_with : (n : ℕ) (s t : List ℕ) (r : ℕ) → r ≡ mask n s → (m : Modes) (x : Field) (t' : List ℕ)
+pub cleared_with : (n : ℕ) (s t : List ℕ) (r : ℕ) → r ≡ mask n s → (m : Modes) (x : Result Field Stop) (t' : List ℕ)
     → ◌≡◌ {A = Checked} (record { answer = x; table = t' }) (top_with m s t) → ◌≡◌ {A = Masked} (record { answer = r; table = t' }) (mask_with n s t)
 unfolding mask_with top_with
 cleared_with n s t r e m x t' h = let z : t' ≡ replicate (length t) 0 = ap (λ z. z.table) h in rw (e, z)
@@ -127,3 +130,7 @@ pub cleared : (n : ℕ) (s t : List ℕ) (r : ℕ) → r ≡ mask n s → (t' : 
     → ◌≡◌ {A = Masked} (record { answer = r; table = t' }) (mask_with n s t)
 unfolding mask_with
 cleared n s t r e t' h = rw (e, h)
+
+pub ruleset laws = (mask_long, not_asked, top_named)
+
+pub ruleset with_laws = (mask_long, not_asked, top_with_law, cleared, cleared_with)

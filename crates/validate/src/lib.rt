@@ -23,24 +23,21 @@ fn is_asked(modes: u32, bit: u32) -> bool
 }
 
 // What the top field's check comes to.
-fn settle(modes: u32, payload: &[u8], field: Field) -> u32
+fn settle(modes: u32, payload: &[u8], field: Result<Field, Stop>) -> u32
     requires { (length payload.now ≤ length_limit) × (field ≡ top_at modes payload.now) }
     ensures { result ≡ mask modes payload.now }
 {
     match field {
-        Field::Stop(stop) => format::stop_value(stop),
-        Field::Read {
-            kind: _,
-            end,
-            faults,
-        } => {
-            faults::sum_of(faults) as u32
-                + value_if(is_asked(modes, 4) & (end < payload.len()), 4096)
+        Err(stop) => format::stop_value(stop),
+        Ok(top) => {
+            faults::sum_of(top.faults) as u32
+                + value_if(is_asked(modes, 4) & (top.end < payload.len()), 4096)
         }
     }
 }
 
 // Names are not asked about.
+#[tactic(auto, using(crate::proofs::MaskCases::top_nameless))]
 fn without_names(modes: u32, payload: &[u8]) -> u32
     requires { (length payload.now ≤ length_limit) × (is_asked modes names_mode ≡ false) }
     ensures { result ≡ mask modes payload.now }
@@ -62,6 +59,7 @@ fn asked(modes: u32) -> Modes
 }
 
 // The mask ("The mask"): 0, or the first fault that stops, or the sum of the faults that do not, each once, where its mode is asked.
+#[tactic(auto, using(crate::proofs::MaskCases::laws))]
 pub fn validate(modes: u32, payload: &[u8]) -> u32
     ensures { result ≡ mask modes payload.now }
 {
@@ -75,6 +73,7 @@ pub fn validate(modes: u32, payload: &[u8]) -> u32
 }
 
 // The same with a table that is lent, of any length, for the names; it holds zeros afterwards.
+#[tactic(auto, using(crate::proofs::MaskCases::with_laws))]
 pub fn validate_with(modes: u32, payload: &[u8], table: &mut [u64]) -> u32
     ensures { record { answer = result; table = table.new } ≡ mask_with modes payload.now table.old }
 {

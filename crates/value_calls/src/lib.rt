@@ -1,10 +1,11 @@
 #![tactic(auto)]
 // The values of places, in numbers: 0, where the lent numbers then start with the value; the number of the fault met; or 6 for a wrong kind, 7 for out of
 // range; 12, before all else, for too few numbers lent. After any but 0 the lent numbers are as before.
+// C lends a place as its four numbers, so the calls take these and no struct.
 ghost use Rattle.std.specs.Prelude.{◌≡◌};
 ghost use Rattle.places.specs.Values.{double, signed, unsigned, ticks};
 ghost use Rattle.replies.specs.Number.{afterwards};
-ghost use Rattle.replies.specs.Reply.{told, double_reply, signed_reply, unsigned_reply, ticks_reply};
+ghost use Rattle.replies.specs.Reply.{told, number_reply, signed_reply, ticks_reply};
 ghost use Rattle.place_replies.specs.PlaceReply.{place_of};
 
 use places::Place;
@@ -19,9 +20,9 @@ pub fn double(
     answer: &mut [u64],
 ) -> u32
     ensures { afterwards result answer.new
-        ≡ told 1 (double_reply (double payload.now (place_of kind start end depth))) answer.old }
+        ≡ told 1 (number_reply (double payload.now (place_of kind start end depth))) answer.old }
 {
-    replies::double(
+    replies::number(
         values::double(payload, Place::of(kind, start, end, depth)),
         answer,
     )
@@ -55,9 +56,9 @@ pub fn unsigned(
     answer: &mut [u64],
 ) -> u32
     ensures { afterwards result answer.new
-        ≡ told 1 (unsigned_reply (unsigned payload.now (place_of kind start end depth))) answer.old }
+        ≡ told 1 (number_reply (unsigned payload.now (place_of kind start end depth))) answer.old }
 {
-    replies::unsigned(
+    replies::number(
         values::unsigned(payload, Place::of(kind, start, end, depth)),
         answer,
     )

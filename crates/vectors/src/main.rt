@@ -10,15 +10,9 @@ const WITHOUT_PADDING: u32 = 3;
 
 const STRICT: u32 = 7;
 
-fn wide(b: u8) -> u64 {
-    b as u64
-}
-
 fn print_bytes(part: &[u8]) {
-    let mut i = 0;
-    while i < part.len() {
-        io::print_hex(STDOUT_FILENO, wide(part[i]), 2);
-        i += 1;
+    for b in part {
+        io::print_hex(STDOUT_FILENO, u64::from(*b), 2);
     }
 }
 

@@ -4,84 +4,67 @@ ghost use Rattle.std.specs.Prelude.{◌≡◌};
 ghost use Rattle.format.specs.Kinds.{has_size};
 ghost use Rattle.places.specs.Places.{name_view, size_length, part, view};
 
-use format::{Kind, Known};
-use places::{After, Checked, Part, Place, Step};
+use format::{Class, Kind, Stop};
+use places::{Part, Place};
 
 // The name that a step meets; what the step answers says why there is none.
-pub fn name_view<'a>(payload: &'a [u8], container: Place, last: After) -> &'a [u8]
+#[tactic(auto, using(crate::proofs::ViewLaws::name_laws))]
+pub fn name_view<'a>(payload: &'a [u8], container: Place, last: Option<Place>) -> &'a [u8]
     ensures { result.now ≡ name_view payload.now container last }
 {
-    match read::step(payload, container, last) {
-        Step::Field(place, name) => {
-            let start = place.start;
-            return &payload[name..start];
-        }
-        Step::NoMore => {
-            return &payload[..0];
-        }
-        Step::WrongKind => {
-            return &payload[..0];
-        }
-        Step::Fault(_) => {
-            return &payload[..0];
-        }
-    }
+    let Ok(Some(field)) = read::step(payload, container, last) else {
+        return &payload[..0];
+    };
+    &payload[field.name..field.place.start]
 }
 
+#[tactic(auto, using(crate::proofs::ViewLaws::sized_laws))]
 fn has_size(kind: Kind) -> bool
     ensures { result ≡ has_size kind }
 {
-    let id = format::id_of(kind);
-    ((1 < id) & (id < 8)) | (29 < id)
+    match format::class_of(kind) {
+        Class::Text | Class::Behind(_) => true,
+        _ => false,
+    }
 }
 
 // How many bytes the size takes, if there is one.
-fn size_length(part: &[u8], known: Known) -> usize
+#[tactic(auto, using(crate::proofs::ViewLaws::size_laws))]
+fn size_length(part: &[u8], known: Option<Kind>) -> usize
     ensures { result ≡ size_length known part.now }
 {
-    match known {
-        Known::Unknown => 0,
-        Known::Is(kind) => {
-            if has_size(kind) {
-                return match number::read(part) {
-                    number::VarUInt::Cut { missing: _ } => 0,
-                    number::VarUInt::Whole {
-                        value: _,
-                        length,
-                        minimal: _,
-                    } => length,
-                };
-            }
-            0
-        }
+    let Some(kind) = known else {
+        return 0;
+    };
+    if has_size(kind) {
+        number::read(part).map_or(0, |size| size.length)
+    } else {
+        0
     }
 }
 
 // Where a place's view stands.
-pub fn part(payload: &[u8], place: Place) -> Part
+#[tactic(auto, using(crate::proofs::ViewLaws::part_laws))]
+pub fn part(payload: &[u8], place: Place) -> Result<Part, Stop>
     ensures { result ≡ part payload.now place }
 {
-    match open::checked(payload, place) {
-        Checked::Fault(stop) => Part::Fault(stop),
-        Checked::Good => {
-            let start = place.start;
-            let end = place.end;
-            let size = size_length(&payload[start..end], format::known_of(place.kind));
-            Part::At(start + size, end)
-        }
-    }
+    open::checked(payload, place)?;
+    let start = place.start;
+    let end = place.end;
+    let size = size_length(&payload[start..end], format::known_of(place.kind));
+    Ok(Part {
+        begin: start + size,
+        end,
+    })
 }
 
 // A place's payload after its size, if it has one.
+#[tactic(auto, using(crate::proofs::ViewLaws::view_laws))]
 pub fn view<'a>(payload: &'a [u8], place: Place) -> &'a [u8]
     ensures { result.now ≡ view payload.now place }
 {
-    match part(payload, place) {
-        Part::At(begin, end) => {
-            return &payload[begin..end];
-        }
-        Part::Fault(_) => {
-            return &payload[..0];
-        }
-    }
+    let Ok(view) = part(payload, place) else {
+        return &payload[..0];
+    };
+    &payload[view.begin..view.end]
 }

@@ -1,4 +1,5 @@
 -- A frame again, in the second pass: what the code knows at each return.
+use Rattle.std.specs.Prelude.{Option, None, Some, Ok, Err, Result}
 use Prim.Native.Nat.{ℕ, ◌+◌, ◌-◌, ◌≤◌, ◌<◌}
 use native.Mathlib.Omega.{arith}
 use mathlib.Core.Path.{◌≡◌, refl, ap, ◌∙◌}
@@ -9,12 +10,9 @@ use mir.Syntax.{w64}
 use mir.Val.{Fits}
 use Rattle.number.proofs.Clash.{clash}
 use Rattle.format.specs.declared.Kind.{Kind}
-use Rattle.format.specs.declared.Known.{Known}
-use Rattle.format.specs.declared.Known.TheVariants.{Unknown, Is}
 use Rattle.faults.specs.declared.Modes.{Modes}
 use Rattle.faults.specs.declared.Faults.{Faults}
 use Rattle.format.specs.declared.Stop.{Stop}
-use Rattle.leaves.specs.declared.Heading.{Heading}
 use Rattle.format.specs.Kinds.{known}
 use Rattle.format.specs.Parse.{Out, fault, got}
 use Rattle.format.specs.Names.{read_name}
@@ -28,6 +26,7 @@ use Rattle.frame.specs.Pieces.{no_modes, name_end_by, name_end, end_in, end_know
 use Rattle.frame.proofs.NameReturns.{name_parts}
 use Rattle.write.specs.Again.{start_by, start_at, end_at}
 use Rattle.leaves.specs.declared.Heading.TheVariants as H
+use Rattle.leaves.specs.declared.Heading.{Heading}
 
 -- ---- where a payload starts
 
@@ -59,16 +58,16 @@ module _ (s : List ℕ) (at : ℕ) (l : at < length s) (named : Bool) where
 
 -- ---- where a leaf ends
 
-heading_end : (k : Kind) (m : Modes) (g : Faults) (s : List ℕ) (e : ℕ) (h : Faults) → head_at k m g s ≡ H.Leaf e h → e ≤ length s
+heading_end : (k : Kind) (m : Modes) (g : Faults) (s : List ℕ) (e : ℕ) (h : Faults) → head_at k m g s ≡ Ok (H.Leaf e h) → e ≤ length s
 unfolding head_at
 heading_end k m g s e h z = go (head k s) z
   where
-    by : (x : Head) (v : Faults) (n : ℕ) → n ≤ length s → heading_of x v n ≡ H.Leaf e h → e ≤ length s
+    by : (x : Head) (v : Faults) (n : ℕ) → n ≤ length s → heading_of x v n ≡ Ok (H.Leaf e h) → e ≤ length s
     by (value w) v n l q = let y : n ≡ e = cc in omega arith
     by (fields_in f b) v n l q = clash cc
     by (items_in f c b) v n l q = clash cc
 
-    go : (o : Out Head) → answer_of H.Stop (λ x h r. heading_of x h (length s - length r)) m g o ≡ H.Leaf e h → e ≤ length s
+    go : (o : Out Head) → answer_of Err (λ x h r. heading_of x h (length s - length r)) m g o ≡ Ok (H.Leaf e h) → e ≤ length s
     go (fault j) q = clash cc
     go (got x fs r) q = by x _ (length s - length r) (omega arith) q
 
@@ -76,15 +75,15 @@ leaf_end_le : (b : ℕ) (s : List ℕ) → leaf_end b s ≤ length s
 unfolding leaf_end
 leaf_end_le b s = go (known b)
   where
-    by : (k : Kind) (x : Heading) → head_at k no_modes nothing s ≡ x → end_in x ≤ length s
-    by k (H.Stop j) e = omega arith
-    by k (H.Leaf a h) e = heading_end k no_modes nothing s a h e
-    by k (H.Fields f a c h) e = omega arith
-    by k (H.Items f n a c h) e = omega arith
+    by : (k : Kind) (x : Result Heading Stop) → head_at k no_modes nothing s ≡ x → end_in x ≤ length s
+    by k (Err j) e = omega arith
+    by k (Ok (H.Leaf a h)) e = heading_end k no_modes nothing s a h e
+    by k (Ok (H.Fields f a c h)) e = omega arith
+    by k (Ok (H.Items f n a c h)) e = omega arith
 
-    go : (o : Known) → end_known o s ≤ length s
-    go Unknown = omega arith
-    go (Is k) = by k (head_at k no_modes nothing s) refl
+    go : (o : Option Kind) → end_known o s ≤ length s
+    go None = omega arith
+    go (Some k) = by k (head_at k no_modes nothing s) refl
 
 module _ (s : List ℕ) (at : ℕ) (l : at ≤ length s) (b v : ℕ) (e : v ≡ leaf_end b (between at (length s) s)) where
   end_here : v ≡ leaf_end b (drop at s)
@@ -96,3 +95,5 @@ module _ (s : List ℕ) (at : ℕ) (l : at ≤ length s) (b v : ℕ) (e : v ≡ 
 
   pub end_fits : length s ≤ 65536 → Fits w64 (at + v)
   end_fits n = record { fits = omega (arith, end_here, leaf_end_le b (drop at s), length-drop at s) }
+
+pub ruleset start_laws = (start_plain, start_read, start_fits)

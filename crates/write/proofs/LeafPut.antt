@@ -1,4 +1,5 @@
 -- The second pass, a leaf: what stands in the list is written, but for a Float64 that Float32 holds.
+use Rattle.std.specs.Prelude.{Some, Option, None}
 use Prim.Native.Nat.{ℕ, ◌+◌, ◌-◌, ◌≤◌}
 use native.Mathlib.Omega.{arith}
 use mathlib.Core.Path.{◌≡◌, refl, sym, ap, ◌∙◌}
@@ -13,11 +14,7 @@ use Rattle.number.proofs.BigEndianLaws.{to_length}
 use Rattle.float.specs.Rule.{holds}
 use Rattle.float.specs.Width.{narrow}
 use Rattle.float.specs.Answer.{narrowed}
-use Rattle.float.specs.declared.Narrowed.{Narrowed}
-use Rattle.float.specs.declared.Narrowed.TheVariants as N
 use Rattle.format.specs.declared.Kind.{Kind}
-use Rattle.format.specs.declared.Known.{Known}
-use Rattle.format.specs.declared.Known.TheVariants.{Unknown, Is}
 use Rattle.faults.specs.Noted.{nothing}
 use Rattle.head.specs.Code.{head_at}
 use Rattle.format.specs.Kinds.{id, known}
@@ -46,20 +43,20 @@ position n o k = record { next = n; to = o; opened = k }
 
 -- what was read, with its kind and its reader
 pub leaf_case : {X : Type 0} (b : ℕ) (s : List ℕ) {v : Leaf} {r : List ℕ} → leaf_of b s ≡ framed v r →
-    ((k : Kind) (p : List ℕ → Out Leaf) → known b ≡ Is k → b ≡ id k → payload k ≡ leaf p → leaf_found s (p s) ≡ framed v r → X) → X
+    ((k : Kind) (p : List ℕ → Out Leaf) → known b ≡ Some k → b ≡ id k → payload k ≡ leaf p → leaf_found s (p s) ≡ framed v r → X) → X
 unfolding leaf_of
 leaf_case {X} b s {v} {r} h c = go (known b) refl h
   where
-    by : (k : Kind) → known b ≡ Is k → (q : Payload) → payload k ≡ q → leaf_by q s ≡ framed v r → X
+    by : (k : Kind) → known b ≡ Some k → (q : Payload) → payload k ≡ q → leaf_by q s ≡ framed v r → X
     by k e (leaf p) i h = c k p e (known_inv b k e) i h
     by k e fields i h = never h
     by k e shared_fields i h = never h
     by k e items i h = never h
     by k e shared_items i h = never h
 
-    go : (o : Known) → known b ≡ o → leaf_known o s ≡ framed v r → X
-    go Unknown e h = never h
-    go (Is k) e h = by k e (payload k) refl h
+    go : (o : Option Kind) → known b ≡ o → leaf_known o s ≡ framed v r → X
+    go None e h = never h
+    go (Some k) e h = by k e (payload k) refl h
 
 pub same_leaf : {A : Type 0} {o : Frames A} {x y : A} {q r : List ℕ} → o ≡ framed x q → o ≡ framed y r → (x ≡ y) × (q ≡ r)
 same_leaf a b = (cc, cc)
@@ -76,16 +73,16 @@ module _ (s : List ℕ) (at to : ℕ) (out : List ℕ) (g : LeafReady s at 11 to
   pub double_high : at + 8 ≤ length s
   double_high = double λ fs d. omega (arith, d.enough, length-drop at s, g.inside)
 
-  module _ (v : ℕ) (e : v ≡ bits_at s at) (x : Narrowed) (i : x ≡ narrowed v) where
+  module _ (v : ℕ) (e : v ≡ bits_at s at) (x : Option ℕ) (i : x ≡ narrowed v) where
     bits_are : bits_at s at ≡ bits_of (drop at s)
     unfolding bits_at bits_in
     bits_are = double λ fs d. rw (le-ltb (length (drop at s)) 8 d.enough)
 
-    module _ (n : ℕ) (j : x ≡ N.To n) where
+    module _ (n : ℕ) (j : x ≡ Some n) where
       to_is : (holds (bits_of (drop at s)) ≡ true) × (n ≡ narrow (bits_of (drop at s)))
       to_is = rw (e ∙ bits_are) at (go (holds v) refl (sym j ∙ i))
         where
-          go : (b : Bool) → holds v ≡ b → N.To n ≡ cond b (N.To (narrow v)) N.No → (holds v ≡ true) × (n ≡ narrow v)
+          go : (b : Bool) → holds v ≡ b → Some n ≡ cond b (Some (narrow v)) None → (holds v ≡ true) × (n ≡ narrow v)
           go true h z = (h, cc)
           go false h z = clash cc
 
@@ -111,11 +108,15 @@ module _ (s : List ℕ) (at to : ℕ) (out : List ℕ) (g : LeafReady s at 11 to
             });
       }
 
-    module _ (j : x ≡ N.No) where
+      pub narrow_put : (k z : ℕ) (out' : List ℕ) {out'' : List ℕ} → z ≡ 4 → out' ≡ out'' → out'' ≡ sets out to (to_bytes 4 n)
+          → LeafMakes s at 11 to k out out' (position (at + 8) (to + z) k)
+      narrow_put k z out' ez eo eb = rw ez (narrow_made k out' (eo ∙ eb))
+
+    module _ (j : x ≡ None) where
       no_is : holds (bits_of (drop at s)) ≡ false
       no_is = rw (e ∙ bits_are) at (go (holds v) refl (sym j ∙ i))
         where
-          go : (b : Bool) → holds v ≡ b → N.No ≡ cond b (N.To (narrow v)) N.No → holds v ≡ false
+          go : (b : Bool) → holds v ≡ b → None ≡ cond b (Some (narrow v)) None → holds v ≡ false
           go true h z = clash cc
           go false h z = h
 
@@ -142,6 +143,10 @@ module _ (s : List ℕ) (at to : ℕ) (out : List ℕ) (g : LeafReady s at 11 to
                   wide_bytes (rw m at eo);
             });
       }
+
+      pub wide_put : (k z : ℕ) (out' : List ℕ) {out'' : List ℕ} → z ≡ 8 → out' ≡ out'' → out'' ≡ sets out to (between at (at + 8) s)
+          → LeafMakes s at 11 to k out out' (position (at + 8) (to + z) k)
+      wide_put k z out' ez eo eb = rw ez (wide_made k out' (eo ∙ eb))
 
 -- ---- any other leaf
 

@@ -12,7 +12,6 @@ use Rattle.format.specs.Kinds.{id}
 use Rattle.format.specs.Tree.{Tree}
 use Rattle.format.specs.Encoding.{kind_of, payload_of, sizes_of}
 use Rattle.front.specs.Between.{between}
-use Rattle.frames.specs.WriteList.{next}
 use Rattle.write.specs.declared.Position.{Position}
 use Rattle.frames.specs.Container.{type_part, name_part}
 use Rattle.output.specs.Encoded.{final_id}

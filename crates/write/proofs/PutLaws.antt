@@ -1,21 +1,18 @@
 -- What the second pass puts into the output: what the code knows at each return.
-use Prim.Native.Nat.{ℕ, suc, ◌+◌, ◌-◌, ◌/◌, ◌%◌, ◌≤◌, ◌<◌}
+use Prim.Native.Nat.{ℕ, ◌+◌, ◌-◌, ◌/◌, ◌%◌, ◌≤◌, ◌<◌}
 use native.Mathlib.Omega.{arith}
 use native.Mathlib.Nat.{add-zero, div-one}
 use mathlib.Core.Path.{◌≡◌, sym, ap, ◌∙◌}
 use mathlib.Core.Bool.{Bool, true, false}
-use mathlib.Core.List.{List, ◌++◌}
-use lib.ListN.{length, set}
-use lib.Seq.{sets, length-sets}
-use mir.Syntax.{w8}
+use mathlib.Core.List.{List, [], ◌∷◌, ◌++◌, append_assoc}
+use lib.ListN.{length, set, take, drop}
+use lib.Seq.{sets, sets-eq, drop-drop, length-sets}
+use borrow.Rule.Slice.PartMut.{put_mid}
+use Rattle.std.specs.Int.{to_be_bytes}
+use mir.Syntax.{w8, w32}
 use mir.Val.{Fits}
-use borrow.Author.Tests.{le-leb}
-use Rattle.number.proofs.Clash.{clash}
 use Rattle.number.specs.BigEndian.{to_bytes}
 use Rattle.number.specs.VarUInt.{encoded}
-use Rattle.encode.specs.Put.{afterwards, put_at}
-use Rattle.encode.specs.declared.Stored.{Stored}
-use Rattle.encode.specs.declared.Stored.TheVariants.{Done, NoRoom}
 use Rattle.format.specs.Kinds.{flags}
 use Rattle.front.specs.Between.{between}
 use Rattle.frames.specs.Container.{count_part, type_part, type_mark, shared_in}
@@ -23,34 +20,17 @@ use Rattle.frames.proofs.PlaceLaws.{sets_append}
 use Rattle.format.specs.declared.Mark.{Mark}
 use Rattle.format.specs.declared.Mark.TheVariants.{OfTop, OfField, OfItem, SharedByFields, SharedByItems}
 
--- ---- a VarUInt
-
-module _ (n : ℕ) (out out' : List ℕ) (at : ℕ) (r : Stored) (h : afterwards r out' ≡ put_at n out at) (l : at + length (encoded n) ≤ length out) where
-  put_is : afterwards r out' ≡ afterwards (Done (at + length (encoded n))) (sets out at (encoded n))
-  put_is = h ∙ rw (le-leb (at + length (encoded n)) (length out) l)
-
-  pub put_next : (next : ℕ) → r ≡ Done next → next ≡ at + length (encoded n)
-  put_next next e = let z : r ≡ Done (at + length (encoded n)) = ap (λ x. x.answer) put_is in let y : Done next ≡ Done (at + length (encoded n)) = sym e ∙
-      z in cc
-
-  pub put_held : out' ≡ sets out at (encoded n)
-  put_held = ap (λ x. x.held) put_is
-
-  pub put_full : {X : Type 0} → r ≡ NoRoom → X
-  put_full e = let z : r ≡ Done (at + length (encoded n)) = ap (λ x. x.answer) put_is in clash cc
-
-  pub put_none : r ≡ NoRoom → at ≡ at + length (encoded n)
-  put_none e = put_full e
-
 -- ---- a Float32
 
-pub float_bytes : (out : List ℕ) (at v : ℕ) → set (set (set (set out at (v / 16777216 % 256)) (at + 1) (v / 65536 % 256)) (at + 2) (v / 256 % 256)) (at + 3)
-    (v % 256) ≡ sets out at (to_bytes 4 v)
-float_bytes out at v =
-    let a : at + 1 ≡ suc at = omega arith in
-    let b : at + 2 ≡ suc (suc at) = omega arith in
-    let c : at + 3 ≡ suc (suc (suc at)) = omega arith in
-    rw (a, b, c, div-one v)
+high_first : (v : ℕ) → to_be_bytes w32 v ≡ to_bytes 4 v
+high_first v = ap (λ (z : ℕ). (v / 16777216 % 256) ∷ (v / 65536 % 256) ∷ (v / 256 % 256) ∷ (z % 256) ∷ []) (sym (div-one v))
+
+pub float_bytes : (out y : List ℕ) (at v : ℕ) → at + 4 ≤ length out → y ≡ to_be_bytes w32 v
+    → put_mid at (at + 4 - at) out y ≡ sets out at (to_bytes 4 v)
+float_bytes out y at v h e =
+    let k : at + 4 - at ≡ 4 = omega arith in
+    rw (k, e ∙ high_first v, drop-drop 4 at out)
+    (sym (append_assoc (take at out) (to_bytes 4 v) (drop (at + 4) out)) ∙ sym (sets-eq (to_bytes 4 v) out at h))
 
 -- ---- a type byte
 
@@ -118,3 +98,5 @@ module _ (out : List ℕ) (at : ℕ) (named : Bool) (n : ℕ) where
   pub count_kept : named ≡ true → out ≡ sets out at (count_part named n)
   unfolding count_part
   count_kept e = rw e
+
+pub ruleset count_laws = (count_room, count_put, count_kept)

@@ -9,7 +9,7 @@ use lib.Seq.{sets, length-sets}
 use Rattle.number.specs.VarUInt.{encoded}
 use Rattle.format.specs.Tree.{Tree}
 use Rattle.format.specs.Encoding.{concat, kind_of, payload_of, sizes_of}
-use Rattle.frames.specs.WriteList.{framed, next, read_frames}
+use Rattle.frames.specs.WriteList.{framed, read_frames}
 use Rattle.format.proofs.Lists.{append_nil}
 use Rattle.write.specs.declared.Position.{Position}
 use Rattle.frames.specs.Container.{node_of, count_part, packs_of}

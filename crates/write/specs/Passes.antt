@@ -2,7 +2,6 @@
 use Rattle.std.specs.Prelude.{ℕ, suc, ◌+◌, ◌-◌, ◌≤◌, ◌<◌, ◌≡◌, Bool, not, List, ◌++◌, length, drop, set}
 use Rattle.std.proofs.lemmas.List.Edits.{sets}
 use Rattle.number.specs.BigEndian.{Bytes}
-use Rattle.float.specs.Rule.{holds}
 use Rattle.format.specs.Tree.{Leaf, Tree}
 use Rattle.format.specs.Encoding.{leaf_payload, kind_of, payload_of, sizes_of}
 use Rattle.frames.specs.WriteList.{framed, read_frames}

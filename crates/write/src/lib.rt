@@ -11,8 +11,7 @@ ghost use Rattle.frames.specs.Container.{count_part, type_part};
 ghost use Rattle.write.specs.Again.{start_at, end_at};
 ghost use Rattle.write.specs.Passes.{LeafReady, LeafMakes, CanOpen, HasOpened, FieldReady, FieldMakes, ContentsReady, ContentsMakes};
 
-use frames::Written;
-use settle::Settled;
+use frames::Refused;
 
 // Where the encoder stands: in the list, in the output, in the work numbers.
 #[derive(Clone, Copy)]
@@ -47,34 +46,29 @@ fn put_number(out: &mut [u8], at: usize, n: usize) -> usize
     requires { at + length (encoded n) ≤ length out.old }
     ensures { (result ≡ at + length (encoded n)) × (out.new ≡ sets out.old at (encoded n)) }
 {
-    match encode::put(n as u64, out, at) {
-        encode::Stored::NoRoom => at,
-        encode::Stored::Done(next) => next,
-    }
+    encode::put(n as u64, out, at).unwrap_or(at)
 }
 
 fn put_float32(out: &mut [u8], at: usize, bits: u32)
     requires { at + 4 ≤ length out.old }
     ensures { out.new ≡ sets out.old at (to_bytes 4 bits) }
 {
-    out[at] = (bits / 16777216 % 256) as u8;
-    out[at + 1] = (bits / 65536 % 256) as u8;
-    out[at + 2] = (bits / 256 % 256) as u8;
-    out[at + 3] = (bits % 256) as u8;
+    out[at..at + 4].copy_from_slice(&bits.to_be_bytes());
 }
 
 // ---- a frame again
 
 // Where the payload of the frame at a position starts.
+#[tactic(auto, using(crate::proofs::AgainReturns::start_laws))]
 fn start_of(list: &[u8], at: usize, named: bool) -> usize
     requires { (at < length list.now) × (length list.now ≤ 65536) }
     ensures { result ≡ start_at named list.now at }
 {
+    let from = at + 1;
     if named {
-        let from = at + 1;
         return from + frame::name_end(&list[from..]);
     }
-    at + 1
+    from
 }
 
 // Where a leaf ends: b is its kind.
@@ -123,23 +117,21 @@ fn put_double(list: &[u8], at: usize, out: &mut [u8], to: usize, k: usize) -> Po
     requires { LeafReady list.now at 11 to out.old }
     ensures { LeafMakes list.now at 11 to k out.old out.new result }
 {
-    match float::narrow(output::bits_at(list, at)) {
-        float::Narrowed::To(bits) => {
+    let end = at + 8;
+    let size = match float::narrow(output::bits_at(list, at)) {
+        Some(bits) => {
             put_float32(out, to, bits);
-            Position {
-                next: at + 8,
-                to: to + 4,
-                opened: k,
-            }
+            4
         }
-        float::Narrowed::No => {
-            copy(list, at, at + 8, out, to);
-            Position {
-                next: at + 8,
-                to: to + 8,
-                opened: k,
-            }
+        None => {
+            copy(list, at, end, out, to);
+            8
         }
+    };
+    Position {
+        next: end,
+        to: to + size,
+        opened: k,
     }
 }
 
@@ -184,14 +176,14 @@ fn put_head(named: bool, out: &mut [u8], at: usize, work: &mut [u32], k: usize) 
     }
 }
 
+#[tactic(auto, using(crate::proofs::PutLaws::count_laws))]
 fn put_count(out: &mut [u8], at: usize, named: bool, count: usize)
     requires { at + length (count_part named count) ≤ length out.old }
     ensures { out.new ≡ sets out.old at (count_part named count) }
 {
-    if named {
-        return;
+    if !named {
+        put_number(out, at, count);
     }
-    put_number(out, at, count);
 }
 
 // The field at a position, written at `to`. Its containers' numbers stand from k on, and are sizes afterwards.
@@ -268,16 +260,12 @@ fn put_contents(
 }
 
 // The writer.
-pub fn write(list: &[u8], out: &mut [u8], work: &mut [u32]) -> Written
+pub fn write(list: &[u8], out: &mut [u8], work: &mut [u32]) -> Result<usize, Refused>
     ensures { record { answer = result; output = out.new; work = work.new }
         ≡ written list.now out.old work.old }
 {
-    match measure::measure(list, out.len(), work) {
-        Settled::Refused(refusal, place) => Written::Refused(refusal, place),
-        Settled::Ready { id, length } => {
-            out[0] = id;
-            put_field(list, 0, false, false, out, 1, work, 0, format::DEPTH);
-            Written::Done(length)
-        }
-    }
+    let top = measure::measure(list, out.len(), work)?;
+    out[0] = top.id;
+    put_field(list, 0, false, false, out, 1, work, 0, format::DEPTH);
+    Ok(top.length)
 }

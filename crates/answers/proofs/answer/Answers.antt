@@ -2,11 +2,11 @@ use native.Mathlib.Omega.{arith}
 use Rattle.answers.proofs.AnswerLaws.{answer_mistyped, held_length, answer_typed}
 use Rattle.answers.proofs.answer.Goals as goal
 
-pub returns-then-typing : goal.returns-then-typing
-returns-then-typing c =
+pub returns-then-is_some-typing : goal.returns-then-is_some-typing
+returns-then-is_some-typing c =
     answer_mistyped c.args.typing
-    c.args.list.now _ _ _ (omega arith) c.if-typing.true _ _ _
-    c.clear.ensures c.put_refused-length.ensures
+    c.args.list.now _ _ _ (omega arith) (rw c.is_some.ensures at c.if-is_some-typing.true) _ _ _
+    c.clear.ensures c.put_refused.ensures
 
 pub slice_bounds-answer_to-end : goal.slice_bounds-answer_to-end
 slice_bounds-answer_to-end c =
@@ -18,5 +18,5 @@ pub returns : goal.returns
 returns c =
     answer_typed c.args.typing
     c.args.list.now _ _ _
-    c.if-typing.false _ c.held-end.ensures _
+    (rw c.is_some.ensures at c.if-is_some-typing.false) _ c.held-end.ensures _
     c.answer_to.ensures

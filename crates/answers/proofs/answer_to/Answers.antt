@@ -8,37 +8,37 @@ slice_bounds-put_encoding-end c =
     c.requires.0
     c.requires.1
     c.requires.2 _ _ _
-    c.write.ensures _ c.in-Done.is
+    c.write.ensures _ c.in-Ok.is
 
-pub slice_bounds-put_encoding-end-in-Done : goal.slice_bounds-put_encoding-end-in-Done
-slice_bounds-put_encoding-end-in-Done c =
+pub slice_bounds-put_encoding-end-in-Ok : goal.slice_bounds-put_encoding-end-in-Ok
+slice_bounds-put_encoding-end-in-Ok c =
     done_length
     c.args.list.now _ _
     c.args.text.now
     c.requires.0
     c.requires.1
     c.requires.2 _ _ _
-    c.write.ensures _ c.in-Done.is
+    c.write.ensures _ c.in-Ok.is
 
-pub returns-in-Done : goal.returns-in-Done
-returns-in-Done c =
+pub returns-in-Ok : goal.returns-in-Ok
+returns-in-Ok c =
     answer_done
     c.args.list.now _ _
     c.args.text.now
     c.requires.0
     c.requires.1
     c.requires.2 _ _ _ c.write.ensures _
-    c.in-Done.is
+    c.in-Ok.is
     c.write.auto.out _ _
-    c.put_encoding-length.ensures
+    c.put_encoding.ensures
 
-pub returns-in-Refused : goal.returns-in-Refused
-returns-in-Refused c =
+pub returns-in-Err : goal.returns-in-Err
+returns-in-Err c =
     answer_refused
     c.args.list.now _ _
     c.args.text.now
     c.requires.0
     c.requires.1
-    c.requires.2 _ _ _ c.write.ensures _ _
-    c.in-Refused.is _ c.refusal_number.ensures _ _
-    c.put_refused-length.ensures
+    c.requires.2 _ _ _ c.write.ensures _
+    c.in-Err.is _ c.refusal_number-number.ensures _ _
+    c.put_refused.ensures

@@ -12,11 +12,8 @@ decreases-check_field l = 2 * l.left
 abbrev pub decreases-check_object : goal.decreases-check_object
 decreases-check_object l = 2 * l.left + 1
 
-abbrev pub invariant-check_array-loop-room : goal.invariant-check_array-loop-room
-invariant-check_array-loop-room l = Items l.form l.count l.modes l.left l.initial.met l.part l.at l.room l.met l.run
-
-abbrev pub decreases-check_array-loop-room : goal.decreases-check_array-loop-room
-decreases-check_array-loop-room l = l.room
+abbrev pub invariant-check_array-loop-read : goal.invariant-check_array-loop-read
+invariant-check_array-loop-read l = Items l.form l.count l.modes l.left l.initial.met l.part l.at (l.count - l.read) l.met l.run
 
 abbrev pub invariant-check_object-loop-at : goal.invariant-check_object-loop-at
 invariant-check_object-loop-at l = Fields l.form l.modes l.left l.initial.met l.part l.at l.room l.met l.run

@@ -1,17 +1,19 @@
 use borrow.Author.Rules.{rules}
-use Rattle.container.proofs.Returns.{id_two, id_three, id_four, id_five}
+use Rattle.frames.specs.Container.{container_id}
 use Rattle.container.proofs.container_id.Goals as goal
 
-ruleset laws = (id_two, id_three, id_four, id_five, rules)
+pub returns-in-true-false : goal.returns-in-true-false
+unfolding container_id
+returns-in-true-false c = search rules
 
-pub returns-then-uniform : goal.returns-then-uniform
-returns-then-uniform c = search laws
+pub returns-in-true-true : goal.returns-in-true-true
+unfolding container_id
+returns-in-true-true c = search rules
 
-pub returns-then-named : goal.returns-then-named
-returns-then-named c = search laws
+pub returns-in-false-false : goal.returns-in-false-false
+unfolding container_id
+returns-in-false-false c = search rules
 
-pub returns-then-uniform-2 : goal.returns-then-uniform-2
-returns-then-uniform-2 c = search laws
-
-pub returns : goal.returns
-returns c = search laws
+pub returns-in-false-true : goal.returns-in-false-true
+unfolding container_id
+returns-in-false-true c = search rules

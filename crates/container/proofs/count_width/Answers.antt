@@ -7,8 +7,5 @@ ruleset laws = (count_none, count_some, count_most, rules)
 pub returns-then-named : goal.returns-then-named
 returns-then-named c = search laws
 
-pub length-requires : goal.length-requires
-length-requires c = search laws
-
-pub returns : goal.returns
-returns c = search laws
+pub returns-else-named : goal.returns-else-named
+returns-else-named c = search laws

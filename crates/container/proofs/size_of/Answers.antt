@@ -1,38 +1,11 @@
 use borrow.Author.Rules.{rules}
-use Rattle.container.proofs.Returns.{size_shared, size_typed}
+use Rattle.container.proofs.Returns.{size_is}
 use Rattle.container.proofs.size_of.Goals as goal
-
-ruleset laws = (size_shared, size_typed, rules)
-
-pub count_width-w-requires : goal.count_width-w-requires
-count_width-w-requires c = search laws
-
-pub is_uniform-requires : goal.is_uniform-requires
-is_uniform-requires c = search laws
-
-pub overflow_add-result : goal.overflow_add-result
-overflow_add-result c = search laws
-
-pub wide-requires : goal.wide-requires
-wide-requires c = search laws
-
-pub overflow_add-result-then-is_uniform : goal.overflow_add-result-then-is_uniform
-overflow_add-result-then-is_uniform c = search laws
-
-pub returns-then-is_uniform : goal.returns-then-is_uniform
-returns-then-is_uniform c = search laws
-
-pub wide-requires-2 : goal.wide-requires-2
-wide-requires-2 c = search laws
-
-pub overflow_add-result-2 : goal.overflow_add-result-2
-overflow_add-result-2 c = search laws
-
-pub wide-requires-3 : goal.wide-requires-3
-wide-requires-3 c = search laws
-
-pub overflow_add-result-3 : goal.overflow_add-result-3
-overflow_add-result-3 c = search laws
+use Rattle.container.proofs.size_of.Goals.{then-is_uniform, else-is_uniform}
 
 pub returns : goal.returns
-returns c = search laws
+returns c =
+    elim c.if-is_uniform.branch [
+      | then-is_uniform w ↦ size_is _ _ _ _ _ _ c.count_width.ensures.0 (search rules)
+      | else-is_uniform w ↦ size_is _ _ _ _ _ _ c.count_width.ensures.0 (search rules)
+    ]

@@ -1,4 +1,3 @@
-use Prim.Native.Nat.{◌-◌}
 use native.Mathlib.Omega.{arith}
 use mathlib.Core.Path.{refl, sym}
 use Rattle.divide.proofs.NarrowReturns.{narrow_few, narrow_one, narrow_reach, narrow_on, narrow_astride}
@@ -29,7 +28,7 @@ by_names-loop-count-smaller t c = turn_less _ _ _ _ _ _ c.loop-count.invariant _
 pub by_names-loop-count-preserved : goal.by_names-loop-count-preserved
 by_names-loop-count-preserved t c =
     turns_on _ _ _ _ _ _ c.loop-count.invariant _ _ _ _
-    c.narrow-rest.ensures _ c.lesser-best.ensures
+    c.narrow-rest.ensures _ c.min-best.ensures
 
 pub by_names-shape_of-table : goal.by_names-shape_of-table
 by_names-shape_of-table t c = c.loop-count.invariant.length_kept
@@ -40,31 +39,25 @@ by_names-returns t c = turns_end _ _ _ _ _ _ c.loop-count.invariant (omega arith
 pub narrow-returns-then-n-le4 : goal.narrow-returns-then-n-le4
 narrow-returns-then-n-le4 t c = narrow_few _ _ _ _ c.requires.0 c.first_twin.ensures
 
-pub narrow-returns-then-table-at : goal.narrow-returns-then-table-at
-narrow-returns-then-table-at t c =
+pub narrow-returns-then-length_of-at : goal.narrow-returns-then-length_of-at
+narrow-returns-then-length_of-at t c =
     let given = c.requires in
     narrow_one _ _ _ given.0 given.1 (omega arith) _ c.second.ensures
 
-pub narrow-range_of-range-requires : goal.narrow-range_of-range-requires
-narrow-range_of-range-requires t c =
+pub narrow-range_of-low-requires : goal.narrow-range_of-low-requires
+narrow-range_of-low-requires t c =
     let given = c.requires in
     (given.0, narrow_reach _ _ _ given.0 given.1 (omega arith))
-
-pub narrow-overflow_add-result : goal.narrow-overflow_add-result
-narrow-overflow_add-result t c = omega arith
 
 pub narrow-returns-then-high-low : goal.narrow-returns-then-high-low
 narrow-returns-then-high-low t c =
     let given = c.requires in
-    narrow_on _ _ _ given.0 given.1 (omega arith) _ _ c.range_of-range.ensures (omega arith)
-
-pub narrow-overflow_add-low : goal.narrow-overflow_add-low
-narrow-overflow_add-low t c = omega arith
+    narrow_on _ _ _ given.0 given.1 (omega arith) _ _ c.range_of-low.ensures (omega arith)
 
 pub narrow-halve-k-requires : goal.narrow-halve-k-requires
 narrow-halve-k-requires t c =
     let given = c.requires in
-    narrow_astride _ _ _ given.0 given.1 (omega arith) _ _ c.range_of-range.ensures (omega arith)
+    narrow_astride _ _ _ given.0 given.1 (omega arith) _ _ c.range_of-low.ensures (omega arith)
 
 pub narrow-slice_bounds-by_names-count : goal.narrow-slice_bounds-by_names-count
 narrow-slice_bounds-by_names-count t c =

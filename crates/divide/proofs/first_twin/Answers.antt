@@ -1,16 +1,7 @@
 use native.Mathlib.Omega.{arith}
-use mathlib.Core.Path.{sym}
-use Rattle.divide.proofs.DivideReturns.{fit_alike, lent_length, divide_few, divide_unfit, divide_done}
+use Rattle.divide.proofs.DivideReturns.{fit_alike, divide_few, divide_unfit, divide_done}
 use Rattle.divide.proofs.first_twin.Goals as goal
-
-pub returns-then-table-n : goal.returns-then-table-n
-returns-then-table-n c = divide_few _ _ _ (omega arith)
-
-pub slice_bounds-are_fit-end-2 : goal.slice_bounds-are_fit-end-2
-slice_bounds-are_fit-end-2 c = sym (lent_length _ _ (omega arith))
-
-pub slice_bounds-settle-end-then-are_fit : goal.slice_bounds-settle-end-then-are_fit
-slice_bounds-settle-end-then-are_fit c = sym (lent_length _ _ (omega arith))
+use Rattle.divide.proofs.first_twin.Goals.{else-n-table-via-then-n-table+else-are_fit, else-n-table-via-else-n-table}
 
 pub settle-requires : goal.settle-requires
 settle-requires c = fit_alike _ _ _ c.are_fit.ensures c.if-are_fit.true
@@ -20,5 +11,9 @@ returns-then-are_fit c =
     divide_done _ _ _ (omega arith) _ c.are_fit.ensures c.if-are_fit.true _ _
     c.settle.ensures.0 c.settle.ensures.1
 
-pub returns : goal.returns
-returns c = divide_unfit _ _ _ (omega arith) _ c.are_fit.ensures c.if-are_fit.false
+pub returns-else-n-table : goal.returns-else-n-table
+returns-else-n-table c =
+    elim c.else-n-table.branch [
+      | else-n-table-via-then-n-table+else-are_fit w ↦ divide_unfit _ _ _ (omega arith) _ w.are_fit.ensures w.if-are_fit.false
+      | else-n-table-via-else-n-table w ↦ divide_few _ _ _ (omega arith)
+    ]

@@ -1,12 +1,8 @@
 use borrow.Author.Rules.{rules}
 use native.Mathlib.Omega.{arith}
-use Rattle.entries.proofs.Perms.{perm_length}
 use Rattle.divide.proofs.DigitLaws.{reach_perm}
 use Rattle.divide.proofs.HalveReturns.{halve_first, halve_second}
 use Rattle.divide.proofs.halve.Goals as goal
-
-pub shape_of-table-then-table-k : goal.shape_of-table-then-table-k
-shape_of-table-then-table-k c = search (perm_length, rules)
 
 pub returns-then-table-k : goal.returns-then-table-k
 returns-then-table-k c = halve_first _ _ _ _ _ _ c.requires c.split-k.ensures (omega arith)
@@ -14,10 +10,7 @@ returns-then-table-k c = halve_first _ _ _ _ _ _ c.requires c.split-k.ensures (o
 pub split-requires : goal.split-requires
 split-requires c = search (reach_perm, rules)
 
-pub shape_of-table : goal.shape_of-table
-shape_of-table c = search (perm_length, rules)
-
-pub returns : goal.returns
-returns c =
+pub returns-else-table-k : goal.returns-else-table-k
+returns-else-table-k c =
     halve_second _ _ _ _ _ _ c.requires
     c.split-k.ensures (omega arith) _ _ c.split.ensures

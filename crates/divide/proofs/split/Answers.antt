@@ -1,14 +1,10 @@
 use borrow.Author.Rules.{rules}
 use native.Mathlib.Omega.{arith}
-use Prim.Native.Nat.{◌-◌}
-use Rattle.divide.proofs.SplitReturns.{counted_few, split_starts, split_length, split_asks, split_within, split_on, split_ends}
+use Rattle.divide.proofs.SplitReturns.{counted_few, split_starts, split_length, split_asks, split_on, split_ends}
 use Rattle.divide.proofs.split.Goals as goal
 
 pub loop-i-init : goal.loop-i-init
 loop-i-init c = search (split_starts, rules)
-
-pub bounds-table-k-in-loop-i : goal.bounds-table-k-in-loop-i
-bounds-table-k-in-loop-i c = split_within _ _ _ _ _ _ _ _ c.loop-i.invariant (search rules) _
 
 pub digit-requires : goal.digit-requires
 digit-requires c = split_asks _ _ _ _ _ _ _ _ c.loop-i.invariant (search rules) c.requires
@@ -16,16 +12,10 @@ digit-requires c = split_asks _ _ _ _ _ _ _ _ c.loop-i.invariant (search rules) 
 pub overflow_add-k : goal.overflow_add-k
 overflow_add-k c = omega (arith, counted_few _ _ _ _ c.counted-k.ensures)
 
-pub loop-i-smaller : goal.loop-i-smaller
-loop-i-smaller c = omega (arith, split_length _ _ _ _ _ _ _ _ c.loop-i.invariant)
-
 pub loop-i-preserved : goal.loop-i-preserved
 loop-i-preserved c =
     split_on _ _ _ _ _ _ _ _ c.loop-i.invariant
     (omega (arith, split_length _ _ _ _ _ _ _ _ c.loop-i.invariant)) _ _ c.digit.ensures c.counted-k.ensures
-
-pub shape_of-table : goal.shape_of-table
-shape_of-table c = split_length _ _ _ _ _ _ _ _ c.loop-i.invariant
 
 pub returns : goal.returns
 returns c = split_ends _ _ _ _ _ _ _ _ c.loop-i.invariant (omega (arith, split_length _ _ _ _ _ _ _ _ c.loop-i.invariant))

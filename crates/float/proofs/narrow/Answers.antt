@@ -1,5 +1,5 @@
 -- `narrow` converts what passes the rule's test: it is no NaN, and Float32 holds it.
-use Rattle.float.proofs.Casts.{wide_bits_good, wide_value_good, narrows, narrowed_to, narrowed_no}
+use Rattle.float.proofs.Casts.{wide_bits_good, wide_value_good, narrows, narrowed_to}
 use Rattle.float.proofs.narrow.Goals as goal
 
 pub float_from_bits-result : goal.float_from_bits-result
@@ -13,6 +13,3 @@ float_to_bits-result c = search wide_value_good
 
 pub returns-then-float32_holds : goal.returns-then-float32_holds
 returns-then-float32_holds c = search narrowed_to
-
-pub returns-else-float32_holds : goal.returns-else-float32_holds
-returns-else-float32_holds c = search narrowed_no

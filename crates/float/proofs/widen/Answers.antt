@@ -1,12 +1,9 @@
 -- `widen` keeps a NaN's sign and moves its fraction up, and any other number is the machine's own conversion.
-use Rattle.float.proofs.Casts.{nan_widened, bits_good, value_good, widens, number_widened}
+use Rattle.float.proofs.Casts.{nan_widened, value_good, widens, number_widened}
 use Rattle.float.proofs.widen.Goals as goal
 
-pub returns-then-bits-gt2139095040 : goal.returns-then-bits-gt2139095040
-returns-then-bits-gt2139095040 c = search nan_widened
-
-pub float_from_bits-result : goal.float_from_bits-result
-float_from_bits-result c = search bits_good
+pub returns-then-is_nan32 : goal.returns-then-is_nan32
+returns-then-is_nan32 c = search nan_widened
 
 pub float_to_float-result : goal.float_to_float-result
 float_to_float-result c = search widens

@@ -1,62 +1,6 @@
-use borrow.Author.Rules.{rules}
-use Rattle.head.proofs.HeadReturns.{head_fixed, head_text, head_positive, head_negative, head_wide, head_behind}
+use mathlib.Core.Path.{refl}
+use Rattle.head.proofs.HeadReturns.{head_behind}
 use Rattle.head.proofs.header_of.Goals as goal
 
-ruleset laws = (head_fixed, head_text, head_positive, head_negative, head_wide, head_behind, rules)
-
-pub class_of-requires : goal.class_of-requires
-class_of-requires c = search laws
-
-pub enum_known-size : goal.enum_known-size
-enum_known-size c = search laws
-
-pub fixed-requires : goal.fixed-requires
-fixed-requires c = search laws
-
-pub enum_told-1 : goal.enum_told-1
-enum_told-1 c = search laws
-
-pub text_leaf-requires : goal.text_leaf-requires
-text_leaf-requires c = search laws
-
-pub enum_told-in-Positive : goal.enum_told-in-Positive
-enum_told-in-Positive c = search laws
-
-pub positive-requires : goal.positive-requires
-positive-requires c = search laws
-
-pub enum_told-in-Negative : goal.enum_told-in-Negative
-enum_told-in-Negative c = search laws
-
-pub negative-requires : goal.negative-requires
-negative-requires c = search laws
-
-pub enum_told-in-Wide : goal.enum_told-in-Wide
-enum_told-in-Wide c = search laws
-
-pub float64-requires : goal.float64-requires
-float64-requires c = search laws
-
-pub enum_known-inner : goal.enum_known-inner
-enum_known-inner c = search laws
-
-pub behind-requires : goal.behind-requires
-behind-requires c = search laws
-
-pub returns-in-Fixed : goal.returns-in-Fixed
-returns-in-Fixed c = search laws
-
-pub returns-in-Text : goal.returns-in-Text
-returns-in-Text c = search laws
-
-pub returns-in-Positive : goal.returns-in-Positive
-returns-in-Positive c = search laws
-
-pub returns-in-Negative : goal.returns-in-Negative
-returns-in-Negative c = search laws
-
-pub returns-in-Wide : goal.returns-in-Wide
-returns-in-Wide c = search laws
-
 pub returns-in-Behind : goal.returns-in-Behind
-returns-in-Behind c = search laws
+returns-in-Behind c = head_behind _ _ _ _ _ _ c.class_of.ensures _ c.in-Behind.is c.behind.ensures

@@ -1,24 +1,13 @@
-use Prim.Native.Nat.{◌-◌}
 use native.Mathlib.Omega.{arith}
-use mathlib.Core.Path.{refl, sym, ◌∙◌}
-use lib.ListN.{get_or}
-use Rattle.hexadecimal.proofs.TypingLaws.{fed_on, fed_end, keeps_length}
+use mathlib.Core.Path.{refl, sym}
+use Rattle.hexadecimal.proofs.TypingLaws.{fed_on, fed_end}
 use Rattle.hexadecimal.proofs.feed.Goals as goal
 
-pub loop-i-init : goal.loop-i-init
-loop-i-init c = (refl, refl)
+pub loop-c-init : goal.loop-c-init
+loop-c-init c = refl
 
-pub loop-i-preserved : goal.loop-i-preserved
-loop-i-preserved c = (
-  keeps_length (get_or c.args.text.now
-      c.loop-i.i 0) c.loop-i.state _
-      c.loop-i.list _ c.one-state.ensures
-      ∙ c.loop-i.invariant.0,
-  fed_on c.args.text.now
-      c.loop-i.i c.loop-i.state _
-      c.loop-i.list _ _ c.loop-i-test.true
-      c.loop-i.invariant.1 c.one-state.ensures,
-)
+pub loop-c-preserved : goal.loop-c-preserved
+loop-c-preserved c = fed_on c.args.text.now c.loop-c.c-index c.loop-c.typing _ c.loop-c.list _ _ c.loop-c-test.true c.loop-c.invariant c.one-typing.ensures
 
 pub returns : goal.returns
-returns c = sym (fed_end _ c.loop-i.i _ _ _ (omega arith) c.loop-i.invariant.1)
+returns c = sym (fed_end _ c.loop-c.c-index _ _ _ (omega arith) c.loop-c.invariant)

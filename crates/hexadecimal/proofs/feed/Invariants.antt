@@ -1,11 +1,8 @@
-use Prim.Native.Nat.{◌-◌}
+-- `hexadecimal::feed` meets its contract. The loop's invariant: what is left of the text makes of what is typed so far what the text makes of the whole.
 use mathlib.Core.Path.{◌≡◌}
-use lib.ListN.{length, drop}
+use lib.ListN.{drop}
 use Rattle.hexadecimal.specs.Typing.{fed}
 use Rattle.hexadecimal.proofs.feed.Given as goal
 
-abbrev pub invariant-loop-i : goal.invariant-loop-i
-invariant-loop-i l = (length l.list ≡ length l.initial.list) × (fed (drop l.initial.i l.text) l.initial.state l.initial.list ≡ fed (drop l.i l.text) l.state l.list)
-
-abbrev pub decreases-loop-i : goal.decreases-loop-i
-decreases-loop-i l = length l.text - l.i
+abbrev pub invariant-loop-c : goal.invariant-loop-c
+invariant-loop-c l = fed l.text l.initial.typing l.initial.list ≡ fed (drop l.c-index l.text) l.typing l.list

@@ -1,6 +1,5 @@
-use borrow.Author.Rules.{rules}
 use native.Mathlib.Omega.{arith}
-use Rattle.order.proofs.JoinReturns.{join_early, join_merged}
+use Rattle.order.proofs.JoinReturns.{join_early, join_merged, copied}
 use Rattle.order.proofs.join.Goals as goal
 
 pub returns-then-is_upto : goal.returns-then-is_upto
@@ -9,4 +8,6 @@ returns-then-is_upto c =
     c.is_upto.ensures c.if-is_upto.true (omega arith) (omega arith)
 
 pub returns : goal.returns
-returns c = search (join_merged, rules)
+returns c =
+    join_merged _ _ _ _ _ c.requires.2 (omega arith) _ _
+    (copied _ _ _ _ _ _ c.requires.2 (omega arith) (omega arith) c.copy_within.ensures.len c.copy_within.ensures.after) c.merge.ensures

@@ -1,5 +1,4 @@
 use borrow.Author.Rules.{rules}
-use Prim.Native.Nat.{◌-◌}
 use Rattle.order.proofs.MergeReturns.{merge_starts, merge_right, merge_left, merge_ends}
 use Rattle.order.proofs.merge.Goals as goal
 

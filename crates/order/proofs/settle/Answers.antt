@@ -1,4 +1,5 @@
-use Rattle.order.proofs.ArrangeReturns.{all_room, settle_done}
+use borrow.Author.Rules.{rules}
+use Rattle.order.proofs.ArrangeReturns.{all_room, settle_done, cleared}
 use Rattle.order.proofs.settle.Goals as goal
 
 pub sort-requires : goal.sort-requires
@@ -10,4 +11,4 @@ returns c =
     c.before.before.before.before.before.before.before.before.before.before.before.before.before.before.before.before.requires _ _ _ _ _
     c.before.before.before.before.before.before.before.before.before.before.before.before.sort.ensures
     c.first_twin-least.ensures
-    c.keep-count.ensures c.clear.ensures
+    c.keep-count.ensures (cleared _ _ _ (c.fill.ensures.after (λ y e. search rules)))

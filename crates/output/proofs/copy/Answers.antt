@@ -1,18 +1,20 @@
-use borrow.Author.Rules.{rules}
-use Rattle.output.proofs.CopyReturns.{copy_back, copy_past, copy_behind, copy_few, copy_done}
+use native.Mathlib.Omega.{arith}
+use Rattle.output.proofs.CopyReturns.{copy_past, copy_few, copy_done}
 use Rattle.output.proofs.copy.Goals as goal
+use Rattle.output.proofs.copy.Goals.{else-to-out-via-then-to-out+else-bytes-out, else-to-out-via-else-to-out}
 
-pub returns-then-end-from : goal.returns-then-end-from
-returns-then-end-from c = search (copy_back, rules)
+pub returns-then-bytes-out : goal.returns-then-bytes-out
+returns-then-bytes-out c =
+    let part = c.in-Some.ensures.lookup.0 in
+    copy_done _ _ _ _ _ part.0 part.1 _ _ part.2 part.3 (omega arith) c.copy_from_slice.ensures.after
 
-pub returns-then-list-end : goal.returns-then-list-end
-returns-then-list-end c = search (copy_past, rules)
+pub returns-else-to-out : goal.returns-else-to-out
+returns-else-to-out c =
+    let part = c.in-Some.ensures.lookup.0 in
+    elim c.else-to-out.branch [
+      | else-to-out-via-then-to-out+else-bytes-out w ↦ copy_few _ _ _ _ _ part.0 part.1 (omega (arith, part.3))
+      | else-to-out-via-else-to-out w ↦ copy_few _ _ _ _ _ part.0 part.1 (omega arith)
+    ]
 
-pub returns-then-out-to : goal.returns-then-out-to
-returns-then-out-to c = search (copy_behind, rules)
-
-pub returns-then-out-to-2 : goal.returns-then-out-to-2
-returns-then-out-to-2 c = search (copy_few, rules)
-
-pub returns : goal.returns
-returns c = search (copy_done, rules)
+pub returns-in_default : goal.returns-in_default
+returns-in_default c = copy_past _ _ _ _ _ c.in_default.ensures.lookup.0

@@ -1,38 +1,15 @@
-use borrow.Author.Rules.{rules}
-use Rattle.output.proofs.EncodedReturns.{final_object, final_array, final_held, final_kept, final_other}
+use native.Mathlib.Omega.{arith}
+use Rattle.output.proofs.EncodedReturns.{final_container, final_held, final_kept, final_other}
 use Rattle.output.proofs.final_id.Goals as goal
 
-ruleset laws = (final_object, final_array, final_held, final_kept, final_other, rules)
+pub returns-in-2 : goal.returns-in-2
+returns-in-2 c = final_container _ _ _ _ c.in-2.is _ _ c.is_uniform_in.ensures c.container_id.ensures
 
-pub is_uniform_in-requires : goal.is_uniform_in-requires
-is_uniform_in-requires c = search laws
+pub returns-in-11 : goal.returns-in-11
+returns-in-11 c = final_held _ _ _ _ c.in-11.is _ _ c.bits_at.ensures c.float32_holds.ensures c.if-float32_holds.true
 
-pub container_id-requires : goal.container_id-requires
-container_id-requires c = search laws
+pub returns-in_default : goal.returns-in_default
+returns-in_default c = final_kept _ _ _ _ c.in-11.is _ _ c.bits_at.ensures c.float32_holds.ensures c.if-float32_holds.false
 
-pub returns-then-b-eq2 : goal.returns-then-b-eq2
-returns-then-b-eq2 c = search laws
-
-pub is_uniform_in-requires-then-b-eq4 : goal.is_uniform_in-requires-then-b-eq4
-is_uniform_in-requires-then-b-eq4 c = search laws
-
-pub container_id-requires-then-b-eq4 : goal.container_id-requires-then-b-eq4
-container_id-requires-then-b-eq4 c = search laws
-
-pub returns-then-b-eq4 : goal.returns-then-b-eq4
-returns-then-b-eq4 c = search laws
-
-pub bits_at-requires : goal.bits_at-requires
-bits_at-requires c = search laws
-
-pub float32_holds-requires : goal.float32_holds-requires
-float32_holds-requires c = search laws
-
-pub returns-then-float32_holds : goal.returns-then-float32_holds
-returns-then-float32_holds c = search laws
-
-pub returns-then-b-eq11 : goal.returns-then-b-eq11
-returns-then-b-eq11 c = search laws
-
-pub returns : goal.returns
-returns c = search laws
+pub returns-in_default-2 : goal.returns-in_default-2
+returns-in_default-2 c = final_other _ _ _ _ (λ e. grind arith) (λ e. grind arith) (λ e. grind arith)

@@ -1,9 +1,6 @@
-use Rattle.pairs.proofs.PairReturns.{Past}
-use Prim.Native.Nat.{◌-◌}
+use Rattle.std.proofs.Common.{◌≡◌, take}
+use Rattle.pairs.specs.Code.{least_past}
 use Rattle.pairs.proofs.past.Given as goal
 
-abbrev pub invariant-loop-j : goal.invariant-loop-j
-invariant-loop-j l = Past l.part l.table l.i l.y l.least l.j l.least_so_far
-
-abbrev pub decreases-loop-j : goal.decreases-loop-j
-decreases-loop-j l = l.i - l.j
+abbrev pub invariant-loop-x : goal.invariant-loop-x
+invariant-loop-x l = l.least_so_far ≡ least_past l.part (take l.x-index l.before) l.y l.least

@@ -9,5 +9,5 @@ loop-left-init c = let s = reached_start _ _ c.nothing-typing.ensures in (refl, 
 
 pub loop-left-preserved : goal.loop-left-preserved
 loop-left-preserved c =
-    let x = reached_more _ _ _ c.loop-left.invariant.2 c.in-Ok.n c.loop-left.left c.read.new.buf _ _ c.loop-left.invariant.3 (omega arith)
-    c.feed-typing.ensures in (search rules, search rules, x.0, x.1)
+    let x = reached_more _ _ _ c.loop-left.invariant.2 _ _ c.read.new.buf _ _ c.loop-left.invariant.3 c.in_ok-left.ensures.0 c.feed-typing.ensures
+    in (search rules, search rules, x.0, rw c.in_ok-left.ensures.1 x.1)

@@ -6,6 +6,6 @@ use Rattle.program.proofs.run.Goals as goal
 pub print-requires : goal.print-requires
 print-requires c = answer_inside _ _ _ _ _ _ c.answer-printed.ensures
 
-pub returns-in-Typed : goal.returns-in-Typed
-returns-in-Typed c =
-    ran_is _ _ _ (heard _ _ _ c.read_all.ensures _ c.in-Typed.is) (omega arith) _ _ _ _ c.answer-printed.ensures _ c.print.ensures
+pub returns : goal.returns
+returns c =
+    ran_is _ _ _ (heard _ _ _ c.read_all.ensures _ c.in-Some.is) (omega arith) _ _ _ _ c.answer-printed.ensures _ c.print.ensures

@@ -1,87 +1,25 @@
-use Prim.Native.Nat.{◌-◌}
+use Rattle.std.proofs.Common.{rules, Err, ◌≡◌, ◌∙◌}
 use native.Mathlib.Omega.{arith}
-use Rattle.read.proofs.LookLaws.{step_along, look_start, look_end, look_none, look_wrong, look_fault, look_found, look_on}
+use Rattle.read.proofs.LookLaws.{look_fault, look_found, met_along}
 use Rattle.read.proofs.look.Goals as goal
 
-pub loop-at-init : goal.loop-at-init
-loop-at-init c = look_start _ _ _ _ _ c.requires.0
-
-pub step_in-requires : goal.step_in-requires
-step_in-requires c = (c.requires.1, c.requires.2)
-
-pub slice_bounds-are_equal-count : goal.slice_bounds-are_equal-count
-slice_bounds-are_equal-count c =
-    omega (
-      arith,
-      c.requires.1,
-      step_along c.args.payload.now
-          c.args.object
-          c.args.form
-          c.args.begin c.loop-at.at
-          c.requires.1 _ c.step_in.ensures _ _
-          c.in-Field.is,
-    )
-
-pub slice_bounds-are_equal-start : goal.slice_bounds-are_equal-start
-slice_bounds-are_equal-start c =
-    omega (
-      arith,
-      c.requires.1,
-      step_along c.args.payload.now
-          c.args.object
-          c.args.form
-          c.args.begin c.loop-at.at
-          c.requires.1 _ c.step_in.ensures _ _
-          c.in-Field.is,
-    )
+pub returns-in_err-field : goal.returns-in_err-field
+returns-in_err-field c =
+    let told = look_fault _ _ _ _ _ _ c.loop-field.invariant _ c.step_in.ensures _ c.in_err-field.was in
+    let here : c.from_residual.result ≡ Err c.in_err-field.field-0.0 = search rules in
+    here ∙ told
 
 pub slice_bounds-are_equal-end : goal.slice_bounds-are_equal-end
 slice_bounds-are_equal-end c =
-    omega (
-      arith,
-      c.requires.1,
-      step_along c.args.payload.now
-          c.args.object
-          c.args.form
-          c.args.begin c.loop-at.at
-          c.requires.1 _ c.step_in.ensures _ _
-          c.in-Field.is,
-    )
+    let stands = met_along _ _ _ _ _ c.loop-field.at c.loop-field.invariant _ c.step_in.ensures _ c.in_ok-field.was _ c.in-Some.is c.requires.1 in
+    omega (arith, c.requires.1)
 
 pub returns-then-found : goal.returns-then-found
 returns-then-found c =
-    look_found _ _ _ _ _ _ c.loop-at.invariant _
-    c.step_in.ensures _ _ c.in-Field.is _
+    look_found _ _ _ _ _ _ c.loop-field.invariant _ c.step_in.ensures _ c.in_ok-field.was _ c.in-Some.is _
     c.are_equal-found.ensures c.if-found.true
 
-pub loop-at-smaller : goal.loop-at-smaller
-loop-at-smaller c =
-    let w = step_along c.args.payload.now
-    c.args.object
-    c.args.form
-    c.args.begin
-    c.loop-at.at
-    c.requires.1 _
-    c.step_in.ensures _ _ c.in-Field.is in
-    omega (arith, w.onward c.requires.3, w.within)
-
-pub loop-at-preserved : goal.loop-at-preserved
-loop-at-preserved c =
-    look_on _ _ _ _ _ _ c.loop-at.invariant _
-    c.step_in.ensures _ _ c.in-Field.is _
-    c.are_equal-found.ensures c.requires.3
-    c.requires.1 c.if-found.false
-
-pub returns-in-NoMore : goal.returns-in-NoMore
-returns-in-NoMore c = look_none _ _ _ _ _ _ c.loop-at.invariant _ c.step_in.ensures c.in-NoMore.is
-
-pub returns-in-WrongKind : goal.returns-in-WrongKind
-returns-in-WrongKind c = look_wrong _ _ _ _ _ _ c.loop-at.invariant _ c.step_in.ensures c.in-WrongKind.is
-
-pub returns-in-Fault : goal.returns-in-Fault
-returns-in-Fault c =
-    look_fault _ _ _ _ _ _ c.loop-at.invariant _ c.step_in.ensures _
-    c.in-Fault.is
-
-pub returns : goal.returns
-returns c = look_end _ _ _ _ _ _ c.loop-at.invariant (omega arith)
+pub loop-field-smaller : goal.loop-field-smaller
+loop-field-smaller c =
+    let stands = met_along _ _ _ _ _ c.loop-field.at c.loop-field.invariant _ c.step_in.ensures _ c.in_ok-field.was _ c.in-Some.is c.requires.1 in
+    omega (arith, stands.onward c.requires.3, stands.within)

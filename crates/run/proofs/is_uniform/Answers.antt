@@ -1,17 +1,20 @@
 use borrow.Author.Rules.{rules}
-use Rattle.run.proofs.JoinReturns.{uniform_none, uniform_mixed, uniform_object, uniform_array}
+use native.Mathlib.Omega.{arith}
+use Rattle.std.proofs.Common.{inl, inr}
+use Rattle.run.proofs.JoinReturns.{uniform_none, uniform_mixed, uniform_bare, uniform_other}
 use Rattle.run.proofs.is_uniform.Goals as goal
 
-ruleset laws = (uniform_none, uniform_mixed, uniform_object, uniform_array, rules)
+pub returns-in-0 : goal.returns-in-0
+returns-in-0 c = elim c.in-0.is [ inl h ↦ uniform_none _ _ h | inr h ↦ uniform_mixed _ _ h ]
 
-pub returns-then-shared-eq0 : goal.returns-then-shared-eq0
-returns-then-shared-eq0 c = search laws
+pub returns-in_default : goal.returns-in_default
+returns-in_default c = uniform_other _ _ (λ e. grind arith) (λ e. grind arith) (λ e. grind arith) (λ e. grind arith) (λ e. grind arith)
 
-pub returns-then-shared-eq255 : goal.returns-then-shared-eq255
-returns-then-shared-eq255 c = search laws
+pub returns-in_default-2 : goal.returns-in_default-2
+returns-in_default-2 c = uniform_other _ _ (λ e. grind arith) (λ e. grind arith) (λ e. grind arith) (λ e. grind arith) (λ e. grind arith)
 
-pub returns-then-named : goal.returns-then-named
-returns-then-named c = search laws
+pub returns-in-1 : goal.returns-in-1
+returns-in-1 c = uniform_bare _ _ (inl c.in-1.is)
 
-pub returns : goal.returns
-returns c = search laws
+pub returns-in-1-2 : goal.returns-in-1-2
+returns-in-1-2 c = uniform_bare _ _ (inr (search rules))

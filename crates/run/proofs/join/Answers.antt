@@ -4,11 +4,11 @@ use Rattle.run.proofs.join.Goals as goal
 
 ruleset laws = (join_first, join_same, join_mixed, rules)
 
-pub returns-then-shared-eq0 : goal.returns-then-shared-eq0
-returns-then-shared-eq0 c = search laws
+pub returns-then-shared-eq-NONE : goal.returns-then-shared-eq-NONE
+returns-then-shared-eq-NONE c = search laws
 
 pub returns-then-shared-id : goal.returns-then-shared-id
 returns-then-shared-id c = search laws
 
-pub returns : goal.returns
-returns c = search laws
+pub returns-else-shared-id : goal.returns-else-shared-id
+returns-else-shared-id c = search laws

@@ -1,16 +1,11 @@
-use borrow.Author.Rules.{rules}
-use Prim.Native.Nat.{◌-◌}
-use Rattle.tables.proofs.FitReturns.{fit_starts, fit_fails, fit_on, fit_ends}
+use Rattle.std.proofs.Common.{rules, tests, ◌∙◌}
+use Rattle.std.proofs.lemmas.Iterator.{YieldsList-from_slice}
+use Rattle.std.proofs.lemmas.Iterator.Search.{all_from_yields_List}
+use Rattle.tables.specs.Fit.{fits}
+use Rattle.tables.proofs.FitReturns.{all_fit_is}
 use Rattle.tables.proofs.are_fit.Goals as goal
 
-pub loop-i-init : goal.loop-i-init
-loop-i-init c = search (fit_starts, rules)
-
-pub loop-i-preserved : goal.loop-i-preserved
-loop-i-preserved c = search (fit_on, rules)
-
-pub returns-else-is_fit : goal.returns-else-is_fit
-returns-else-is_fit c = search (fit_fails, rules)
-
 pub returns : goal.returns
-returns c = search (fit_ends, rules)
+returns c =
+    all_from_yields_List (fits c.args.part.now) _ _ _ c.all.ensures.ran (YieldsList-from_slice c.args.table.now cc) (λ x b q k. search (rules, tests))
+    ∙ all_fit_is _ _

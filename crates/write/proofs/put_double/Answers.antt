@@ -1,50 +1,21 @@
-use borrow.Author.Rules.{rules}
-use Rattle.write.proofs.LeafPut.{double_high, narrow_room, narrow_made, wide_room, wide_made}
+use Rattle.std.proofs.Common.{arith}
+use Rattle.write.proofs.LeafPut.{double_high, narrow_room, narrow_put, wide_room, wide_put}
 use Rattle.write.proofs.put_double.Goals as goal
-
-ruleset laws = (double_high, narrow_room, narrow_made, wide_room, wide_made, rules)
-
-pub bits_at-requires : goal.bits_at-requires
-bits_at-requires c = search laws
-
-pub narrow-requires : goal.narrow-requires
-narrow-requires c = search laws
-
-pub enum_known-bits : goal.enum_known-bits
-enum_known-bits c = search laws
+use Rattle.write.proofs.put_double.Goals.{in-Some, in-None}
 
 pub put_float32-requires : goal.put_float32-requires
-put_float32-requires c = search laws
-
-pub overflow_add-result : goal.overflow_add-result
-overflow_add-result c = search laws
-
-pub overflow_add-result-in-To : goal.overflow_add-result-in-To
-overflow_add-result-in-To c = search laws
-
-pub enum_told-1 : goal.enum_told-1
-enum_told-1 c = search laws
-
-pub overflow_add-at : goal.overflow_add-at
-overflow_add-at c = search laws
+put_float32-requires c = narrow_room _ _ _ _ c.requires _ c.bits_at.ensures _ c.narrow.ensures _ c.in-Some.is
 
 pub copy-requires : goal.copy-requires
-copy-requires c = search laws
+copy-requires c = (
+  omega arith,
+  double_high _ _ _ _ c.requires,
+  wide_room _ _ _ _ c.requires _ c.bits_at.ensures _ c.narrow.ensures c.in-None.is,
+)
 
-pub overflow_add-result-in-No : goal.overflow_add-result-in-No
-overflow_add-result-in-No c = search laws
-
-pub overflow_add-result-in-No-2 : goal.overflow_add-result-in-No-2
-overflow_add-result-in-No-2 c = search laws
-
-pub shape_of-out-in-To : goal.shape_of-out-in-To
-shape_of-out-in-To c = search laws
-
-pub returns-in-To : goal.returns-in-To
-returns-in-To c = search laws
-
-pub shape_of-out-in-No : goal.shape_of-out-in-No
-shape_of-out-in-No c = search laws
-
-pub returns-in-No : goal.returns-in-No
-returns-in-No c = search laws
+pub returns : goal.returns
+returns c =
+    elim c.match-narrow.branch [
+      | in-Some w ↦ narrow_put _ _ _ _ c.requires _ c.bits_at.ensures _ c.narrow.ensures _ w.in-Some.is _ _ _ w.size-is w.out-is w.put_float32.ensures
+      | in-None w ↦ wide_put _ _ _ _ c.requires _ c.bits_at.ensures _ c.narrow.ensures w.in-None.is _ _ _ w.size-is w.out-is w.copy.ensures
+    ]

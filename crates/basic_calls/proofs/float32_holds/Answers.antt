@@ -1,6 +1,0 @@
-use mathlib.Core.Path.{ap, ◌∙◌}
-use Rattle.replies.specs.Number.{truth}
-use Rattle.basic_calls.proofs.float32_holds.Goals as goal
-
-pub returns : goal.returns
-returns c = c.number_of.ensures ∙ ap truth c.float32_holds.ensures
