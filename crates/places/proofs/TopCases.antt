@@ -17,7 +17,7 @@ use Rattle.format.specs.Parse.{Out, fault, got}
 use Rattle.head.specs.Code.{meet_at}
 use Rattle.places.specs.Places.{met, meet, top_of, top}
 use Rattle.places.specs.Placed.{placed, field_in}
-use Rattle.places.proofs.PlacedLaws.{placed_of, placed_met}
+use Rattle.places.proofs.PlacedLaws.{placed_met}
 use Rattle.head.specs.declared.Met.{Met}
 
 pub top_long : (s : List ℕ) → length_limit < length s → Err TooLong ≡ top s
@@ -34,16 +34,17 @@ by_met (fault k) = refl
 by_met (got x fs r) = refl
 
 module _ (m : Modes) (g : Faults) (s : List ℕ) (short : length s ≤ length_limit) (w : Result Met Stop) (j : w ≡ meet_at Fo.Top m g s) where
-  top_is : (y : Result Met Stop) → w ≡ y → top_by (placed_of 1 y) ≡ top s
-  unfolding top meet
-  top_is y z =
-      rw (le-ltb length_limit (length s) short)
-      (ap (λ o. top_by (placed_of 1 o)) (sym z ∙ j) ∙ ap top_by (placed_met 1 Fo.Top m g s) ∙ by_met (met 1 (length s) Fo.Top s))
+  module _ (x : Result Field Stop) (i : x ≡ placed 1 w) where
+    top_is : (y : Result Field Stop) → x ≡ y → top_by y ≡ top s
+    unfolding top meet
+    top_is y z =
+        rw (le-ltb length_limit (length s) short)
+        (ap top_by (sym z ∙ i ∙ ap (placed 1) j ∙ placed_met 1 Fo.Top m g s) ∙ by_met (met 1 (length s) Fo.Top s))
 
-  pub top_stop : (k : Stop) → w ≡ Err k → Err k ≡ top s
-  top_stop k z = top_is (Err k) z
+    pub top_stop : (k : Stop) → x ≡ Err k → Err k ≡ top s
+    top_stop k z = top_is (Err k) z
 
-  pub top_at : (p : Met) → w ≡ Ok p → (x : Field) → x ≡ placed 1 p → Ok x.place ≡ top s
-  top_at p z x i = rw i (top_is (Ok p) z)
+    pub top_at : (p : Field) → x ≡ Ok p → Ok p.place ≡ top s
+    top_at p z = top_is (Ok p) z
 
 pub ruleset top_laws = (top_long, top_stop, top_at)

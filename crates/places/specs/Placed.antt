@@ -1,5 +1,5 @@
 -- The place of what was met, for the top place and for steps; and the same of what the definitions meet.
-use Rattle.std.specs.Prelude.{ℕ, ◌-◌, List, length, Result, Err}
+use Rattle.std.specs.Prelude.{ℕ, ◌-◌, List, length, Result, Ok, Err}
 use Rattle.format.specs.declared.Kind.{Kind}
 use Rattle.format.specs.declared.Stop.{Stop}
 use Rattle.format.specs.Kinds.{id}
@@ -15,10 +15,11 @@ use Rattle.head.specs.declared.Met.{Met}
 abbrev pub placed_by : Kind → ℕ → ℕ → ℕ → ℕ → Field
 placed_by k n a e d = record { place = place_with (id k) a e d; name = n }
 
-abbrev pub placed : ℕ → Met → Field
-placed d (M.Leaf k n a e g) = placed_by k n a e d
-placed d (M.Fields k n a f b e g) = placed_by k n a e d
-placed d (M.Items k n a f c b e g) = placed_by k n a e d
+abbrev pub placed : ℕ → Result Met Stop → Result Field Stop
+placed d (Err k) = Err k
+placed d (Ok (M.Leaf k n a e g)) = Ok (placed_by k n a e d)
+placed d (Ok (M.Fields k n a f b e g)) = Ok (placed_by k n a e d)
+placed d (Ok (M.Items k n a f c b e g)) = Ok (placed_by k n a e d)
 
 abbrev pub field_in : Out (List ℕ × Place) → Result Field Stop
 field_in (fault k) = Err k

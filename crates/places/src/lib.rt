@@ -38,8 +38,9 @@ impl Place {
             names: false,
             format: false,
         };
-        let met = head::meet_of(payload, Form::Top, modes, faults::no_faults())?;
-        Ok(placed(met, 1).place)
+        let met = head::meet_of(payload, Form::Top, modes, faults::no_faults());
+        let field = placed(met, 1)?;
+        Ok(field.place)
     }
 
     // Every place is made here.
@@ -62,10 +63,11 @@ pub struct Field {
     pub name: usize,
 }
 
-// The field that was met, at a depth.
-pub fn placed(met: Met, depth: u32) -> Field
+// The field that was met, at a depth; or the fault met in its place, which is handed on.
+pub fn placed(met: Result<Met, Stop>, depth: u32) -> Result<Field, Stop>
     ensures { result ≡ placed depth met }
 {
+    let met = met?;
     match met {
         Met::Leaf {
             kind,
@@ -89,7 +91,7 @@ pub fn placed(met: Met, depth: u32) -> Field
             ..
         } => {
             let place = Place::of(format::id_of(kind), start, end, depth);
-            Field { place, name }
+            Ok(Field { place, name })
         }
     }
 }

@@ -15,11 +15,11 @@ use Rattle.format.specs.Parse.{Out, fault, got, bind}
 use Rattle.format.specs.Payload.{head}
 use Rattle.head.specs.Code.{meeting, meet_at}
 use Rattle.places.specs.Places.{place_with}
-use Rattle.places.specs.Placed.{placed_by, field_in}
+use Rattle.places.specs.Placed.{placed_by, placed, field_in}
 use Rattle.format.proofs.Local.{local_le}
 use Rattle.format.proofs.HeadParts.{local_head, front_takes}
 use Rattle.head.proofs.MeetingLaws.{Meeting, meeting_then, meeting_got}
-use Rattle.places.proofs.PlacedLaws.{placed_of, in_flaws, met_place, placed_met}
+use Rattle.places.proofs.PlacedLaws.{in_flaws, met_place, placed_met}
 use Rattle.read.specs.Code.{field_at}
 use Rattle.places.specs.declared.Field.{Field}
 use Rattle.places.specs.Made.{field_met}
@@ -45,7 +45,7 @@ lies f s {y} e =
 same_place : (k : Kind) (d a e n a' e' n' : ℕ) → a ≡ a' → e ≡ e' → n ≡ n' → ◌≡◌ {A = Result Field Stop} (Ok (placed_by k n a e d)) (Ok (placed_by k n' a' e' d))
 same_place k d a e n a' e' n' p q r = rw (p, q, r)
 
-pub field_moved : (d a : ℕ) (f : Form) (m : Modes) (g : Faults) (s : List ℕ) → moved a d (placed_of d (meet_at f m g s)) ≡ field_at d a f s
+pub field_moved : (d a : ℕ) (f : Form) (m : Modes) (g : Faults) (s : List ℕ) → moved a d (placed d (meet_at f m g s)) ≡ field_at d a f s
 unfolding field_at
 field_moved d a f m g s =
     ap (moved a d) (placed_met d f m g s ∙ ap field_in (sym (meeting_then f s (met_place d (length s)))))

@@ -25,7 +25,7 @@ use Rattle.places.specs.Placed.{placed, field_in}
 use Rattle.places.specs.Made.{field_met}
 use Rattle.places.specs.declared.PlaceError.TheVariants as St
 use Rattle.places.specs.declared.PlaceError.{PlaceError}
-use Rattle.places.proofs.PlacedLaws.{placed_of, placed_met}
+use Rattle.places.proofs.PlacedLaws.{placed_met}
 use Rattle.places.proofs.StepFields.{Along, met_along}
 use Rattle.open.specs.Opening.{opened_by}
 use Rattle.open.specs.declared.Opened.TheVariants as O
@@ -45,30 +45,31 @@ step_same (got x fs r) = refl
 
 -- ---- the field at a position
 
-module _ (d a : ℕ) (f : Form) (m : Modes) (g : Faults) (s : List ℕ) (w : Result Met Stop) (j : w ≡ meet_at f m g s) where
-  field_is : (y : Result Met Stop) → w ≡ y → moved a d (placed_of d y) ≡ field_at d a f s
-  field_is y z = ap (λ y. moved a d (placed_of d y)) (sym z ∙ j) ∙ field_moved d a f m g s
+module _ (d a : ℕ) (f : Form) (m : Modes) (g : Faults) (s : List ℕ) (w : Result Met Stop) (j : w ≡ meet_at f m g s)
+    (x : Result Field Stop) (i : x ≡ placed d w) where
+  field_is : (y : Result Field Stop) → x ≡ y → moved a d y ≡ field_at d a f s
+  field_is y z = ap (moved a d) (sym z ∙ i ∙ ap (placed d) j) ∙ field_moved d a f m g s
 
-  pub field_stop : (k : Stop) → w ≡ Err k → Err k ≡ field_at d a f s
+  pub field_stop : (k : Stop) → x ≡ Err k → Err k ≡ field_at d a f s
   field_stop k z = field_is (Err k) z
 
-  module _ (p : Met) (z : w ≡ Ok p) (x : Field) (i : x ≡ placed d p) where
-    field_inside : Along f d (length s - length s) (length s) x.place x.name
+  module _ (p : Field) (z : x ≡ Ok p) where
+    field_inside : Along f d (length s - length s) (length s) p.place p.name
     field_inside =
-        met_along d (length s) f s x.place x.name (omega arith)
-        (sym (step_same (met d (length s) f s)) ∙ ap step_by (sym (placed_met d f m g s) ∙ sym (ap (placed_of d) j) ∙ ap (placed_of d) z ∙ ap Ok (sym i)))
+        met_along d (length s) f s p.place p.name (omega arith)
+        (sym (step_same (met d (length s) f s)) ∙ ap step_by (sym (placed_met d f m g s) ∙ sym (ap (placed d) j) ∙ sym i ∙ z))
 
-    pub name_inside : x.name ≤ length s
+    pub name_inside : p.name ≤ length s
     name_inside = omega (arith, field_inside)
 
-    pub start_inside : x.place.start ≤ length s
+    pub start_inside : p.place.start ≤ length s
     start_inside = omega (arith, field_inside)
 
-    pub end_inside : x.place.end ≤ length s
+    pub end_inside : p.place.end ≤ length s
     end_inside = omega (arith, field_inside)
 
-    pub field_read : (q : Place) → q ≡ place_with x.place.kind (a + x.place.start) (a + x.place.end) d → field_met q (a + x.name) ≡ field_at d a f s
-    field_read q h = ap (λ r. field_met r (a + x.name)) h ∙ ap (λ y. moved a d (Ok y)) i ∙ field_is (Ok p) z
+    pub field_read : (q : Place) → q ≡ place_with p.place.kind (a + p.place.start) (a + p.place.end) d → field_met q (a + p.name) ≡ field_at d a f s
+    field_read q h = ap (λ r. field_met r (a + p.name)) h ∙ field_is (Ok p) z
 
 pub ruleset field_laws = (field_stop, name_inside, start_inside, end_inside, field_read)
 

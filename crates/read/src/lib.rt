@@ -21,8 +21,8 @@ fn field_at(part: &[u8], form: Form, at: usize, depth: u32) -> Result<Field, Sto
         names: false,
         format: false,
     };
-    let met = head::meet_of(part, form, modes, faults::no_faults())?;
-    let field = places::placed(met, depth);
+    let met = head::meet_of(part, form, modes, faults::no_faults());
+    let field = places::placed(met, depth)?;
     let place = field.place;
     Ok(Field {
         place: Place::of(place.kind, at + place.start, at + place.end, depth),
