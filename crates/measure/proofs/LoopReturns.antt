@@ -1,8 +1,8 @@
 -- The first pass, the loop over the fields of an object or the items of an array: what the code knows at each return, and of the next round.
 use Rattle.std.specs.Prelude.{Result, Ok, Err}
-use Prim.Native.Nat.{ℕ, ◌+◌, ◌-◌, ◌≤◌, ◌<◌}
+use Prim.Native.Nat.{ℕ, ◌+◌, ◌-◌, ◌^◌, ◌≤◌, ◌<◌}
 use native.Mathlib.Omega.{arith}
-use mathlib.Core.Path.{◌≡◌, refl, ap, ◌∙◌}
+use mathlib.Core.Path.{◌≡◌, refl, ap}
 use mathlib.Core.Bool.{Bool, true, false}
 use mathlib.Core.List.{List, ◌++◌}
 use lib.ListN.{length, take, drop, get_or}
@@ -24,7 +24,8 @@ use Rattle.frame.specs.declared.LeafFrame.{LeafFrame}
 use Rattle.frame.specs.Front.{front_at}
 use Rattle.frame.specs.Pieces.{leaf_frame_at}
 use Rattle.naming.specs.Names.{noted_by, ending, ended_by}
-use Rattle.measure.specs.Passes.{is_leaf, leaf_measured, LeafSmall, ClosedBy, FieldAt, PayloadAt, ContentsAt, Lent}
+use Rattle.measure.specs.declared.Contents.{Contents}
+use Rattle.measure.specs.Passes.{is_leaf, leaf_measured, ClosedBy, FieldAt, PayloadAt, ContentsAt, Lent}
 use Rattle.measure.proofs.FieldCases.{frame_deep, frame_start, frame_inside, frame_good, field_of, field_refused}
 use Rattle.measure.proofs.FieldCases.{leaf_sum, leaf_is}
 use Rattle.measure.proofs.SmallLaws.{plain_told}
@@ -60,6 +61,10 @@ module _ {d : ℕ} {s : List ℕ} {at : ℕ} {named : Bool} {k : ℕ} {w₀ w : 
       loose_bad {before} {b} i =
           let y : FieldAt d s p named j w w (refused_at b p) = field_refused d s p named h f a j w b i in
           loops.loop_refuse d s at named k w₀ w p j n sum c st.loop h (refused_at b p) w nz y before (refusal_at b p) refl
+
+-- with one field more
+abbrev pub more : (c n sum : ℕ) → Measured → Contents
+more c n sum fd = record { shared = join c fd.id; count = n + 1; sum = sum + fd.size }
 
 -- ---- a frame behind them, read up to its payload
 
@@ -98,18 +103,13 @@ module _ {d : ℕ} {s : List ℕ} {at : ℕ} {named : Bool} {k : ℕ} {w₀ w : 
 
   -- a leaf
   module _ {x : Result LeafFrame Refusal} (ex : x ≡ leaf_frame_at fr.kind s fr.start) {b : Bool} (eb : b ≡ is_leaf fr.kind) (ib : b ≡ true) where
-    pub met_leaf : {m r : Result Measured Refused} {w' : List ℕ} → w' ≡ w → m ≡ r → r ≡ leaf_measured p (fr.start - (p + 1)) j x
-        → PayloadAt (d - 1) s p fr.start fr.kind j w w' m
-    met_leaf {m} ew em er =
-        rw ew (leaf_is (d - 1) s p fr.start fr.kind j met_payload x ex (plain_told fr.kind b eb ib) (fr.start - (p + 1)) refl w m (em ∙ er))
+    pub met_leaf : PayloadAt (d - 1) s p fr.start fr.kind j w w (leaf_measured p (fr.start - (p + 1)) j x)
+    met_leaf = leaf_is (d - 1) s p fr.start fr.kind j met_payload x ex (plain_told fr.kind b eb ib) (fr.start - (p + 1)) refl w _ refl
 
-    pub leaf_fits : LeafSmall x (fr.start - (p + 1))
-    leaf_fits = leaf_sum (d - 1) s p fr.start fr.kind j met_payload x ex (plain_told fr.kind b eb ib) (fr.start - (p + 1)) refl
-
-  -- what has contents
-  pub met_contents : {m r : Result Measured Refused} {w' w'' : List ℕ} → w' ≡ w'' → m ≡ r → PayloadAt (d - 1) s p fr.start fr.kind j w w'' r
-      → PayloadAt (d - 1) s p fr.start fr.kind j w w' m
-  met_contents ew em q = rw (ew, em) q
+    pub leaf_fits : {lf : LeafFrame} → x ≡ Ok lf → Fits w64 (fr.start - (p + 1) + lf.size)
+    leaf_fits e =
+        let l = rw e at (leaf_sum (d - 1) s p fr.start fr.kind j met_payload x ex (plain_told fr.kind b eb ib) (fr.start - (p + 1)) refl) in
+        record { fits = omega (arith, l) }
 
   -- measured, with its payload
   module _ {m : Result Measured Refused} {w' : List ℕ} (q : PayloadAt (d - 1) s p fr.start fr.kind j w w' m) where
@@ -120,18 +120,29 @@ module _ {d : ℕ} {s : List ℕ} {at : ℕ} {named : Bool} {k : ℕ} {w₀ w : 
     loose_cut {before} {b} e = loops.loop_refuse d s at named k w₀ w p j n sum c st.loop g.more m w' g.unclosed field before b e
 
     module _ {fd : Measured} (e : m ≡ Ok fd) where
-      pub stands_more : {c' : ℕ} → c' ≡ join c fd.id → Standing d s at named k w₀ w' fd.next fd.opened (n + 1) (sum + fd.size) c'
-      stands_more {c'} o = record {
+      pub stands_more : {r : Contents} → r ≡ more c n sum fd → Standing d s at named k w₀ w' fd.next fd.opened r.count r.sum r.shared
+      stands_more o = rw o (record {
         inside = st.inside;
         lent = st.lent;
-        loop = loops.loop_step d s at named k w₀ w p j n sum c st.loop g.more m w' g.unclosed field st.lent fd e c' o;
-      }
+        loop = loops.loop_step d s at named k w₀ w p j n sum c st.loop g.more m w' g.unclosed field st.lent fd e (join c fd.id) refl;
+      })
 
-      pub more_sum : Fits w64 (sum + fd.size)
-      more_sum = loops.loop_sum d s at named k w₀ w p j n sum c st.loop g.more m w' g.unclosed field st.lent fd e
+      pub more_fits : (n + 1 < 2 ^ 64) × (sum + fd.size < 2 ^ 64)
+      more_fits = (
+        omega (arith, st.loop.few, st.loop.high, st.lent.short),
+        (loops.loop_sum d s at named k w₀ w p j n sum c st.loop g.more m w' g.unclosed field st.lent fd e).fits,
+      )
 
       pub more_less : length s - fd.next < length s - p
       more_less = loops.loop_less d s at named k w₀ w p j n sum c st.loop g.more m w' g.unclosed field st.lent fd e
+
+-- a leaf that is refused, or read
+pub leaf_bad : (p before j : ℕ) {x : Result LeafFrame Refusal} {b : Refusal} → x ≡ Err b → leaf_measured p before j x ≡ Err (refusal_at b p)
+leaf_bad p before j e = ap (leaf_measured p before j) e
+
+pub leaf_good : (p before j : ℕ) {x : Result LeafFrame Refusal} {lf : LeafFrame} → x ≡ Ok lf
+    → leaf_measured p before j x ≡ Ok (record { next = lf.end; id = lf.id; size = before + lf.size; opened = j })
+leaf_good p before j e = ap (leaf_measured p before j) e
 
 -- ---- an array: nothing is said of names
 
@@ -205,8 +216,8 @@ module _ {d : ℕ} {s : List ℕ} {at k : ℕ} {w₀ w : List ℕ} {p j n sum c 
         names_settled d s at before k w₀ w' (Err b) (loose_cut g q e) g.standing.inside g.standing.lent.short t notes (p - at + 1) (n + 1)
         (names_cut d s at t notes (n + 1) p nm j w w' m (field g q) b e) r (ap (λ o. o.answer) i)
 
-    pub names_next : {fd : Measured} → m ≡ Ok fd → NamesRead d s at t notes (p - at + 1) (n + 1) fd.next
-    names_next {fd} e = names_more d s at t notes (n + 1) p nm j w w' m (field g q) fd e
+    pub names_next : {fd : Measured} → m ≡ Ok fd → {r : Contents} → r ≡ more c n sum fd → NamesRead d s at t notes (p - at + 1) r.count fd.next
+    names_next {fd} e o = rw o (names_more d s at t notes (n + 1) p nm j w w' m (field g q) fd e)
 
 -- the table behind the notes, for what is inside a frame
 module _ {d : ℕ} {s : List ℕ} {at : ℕ} {t : List ℕ} {notes : Notes} {n p : ℕ} (nm : NamesMet d s at t notes n p) {held : ℕ} (eh : held ≡ held_in notes) where
@@ -216,6 +227,3 @@ module _ {d : ℕ} {s : List ℕ} {at : ℕ} {t : List ℕ} {notes : Notes} {n p
 
     pub names_over : NamesMet d s at (take held t ++ (y ++ drop (length t - held) (drop held t))) notes n p
     names_over = names_kept d s at t notes n p nm held eh _ (y ++ drop (length t - held) (drop held t)) refl same_table
-
-pub names_same : {d : ℕ} {s : List ℕ} {at : ℕ} {t t' : List ℕ} {notes : Notes} {n p : ℕ} → t' ≡ t → NamesMet d s at t notes n p → NamesMet d s at t' notes n p
-names_same e nm = rw e nm

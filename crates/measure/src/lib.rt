@@ -1,10 +1,11 @@
 #![tactic(auto)]
 // The writer's first pass ("The write list"): it checks every frame, and settles the containers' sizes and all IDs. It cannot reach the output.
-ghost use Rattle.std.specs.Prelude.{◌≡◌, true, false, ◌+◌, ◌≤◌, ◌<◌, length, Ok};
+ghost use Rattle.std.specs.Prelude.{◌≡◌, true, false, ◌+◌, ◌^◌, ◌≤◌, ◌<◌, length, Ok};
 ghost use Rattle.number.specs.VarUInt.{encoded};
 ghost use Rattle.format.specs.Payload.{payload};
 ghost use Rattle.frames.specs.Container.{size_by, packed};
 ghost use Rattle.frames.specs.WriteList.{is_writable};
+ghost use Rattle.run.specs.Run.{join};
 ghost use Rattle.measure.specs.Passes.{is_leaf, leaf_measured, LeafSmall, ClosedBy, PayloadAt, FieldAt, ContentsAt, Lent};
 ghost use Rattle.measure.specs.Settle.{measurement, settled_within, settled};
 
@@ -32,6 +33,18 @@ pub struct Contents {
 }
 
 impl Contents {
+    // With one field more: its ID, and what its name and payload take.
+    fn with(self, id: u8, size: usize) -> Contents
+        requires { (self.count + 1 < 2 ^ 64) × (self.sum + size < 2 ^ 64) }
+        ensures { result ≡ record { shared = join self.shared id; count = self.count + 1; sum = self.sum + size } }
+    {
+        Contents {
+            shared: run::join(self.shared, id),
+            count: self.count + 1,
+            sum: self.sum + size,
+        }
+    }
+
     // The size of the container.
     #[tactic(auto, using(crate::proofs::ContainerFits::size_few))]
     fn size(self, named: bool) -> usize
@@ -51,7 +64,8 @@ impl Contents {
     }
 
     // The container, closed at a place of the list: its work number is stored, the k-th. The name before it takes `before` bytes, and `opened` is the next
-    // number.
+    // number. Inlined, since `named` is known at each call: else empty arrays take a tenth longer.
+    #[inline(always)]
     #[tactic(auto, using(crate::proofs::SmallLaws::closed_by))]
     fn closed(
         self,
@@ -161,17 +175,19 @@ fn measure_items(
         };
         let kind = frame.kind;
         let start = frame.start;
-        let measured = if is_leaf(kind) {
-            measured_leaf(frame::leaf_at(list, start, kind), p, start - (p + 1), j)
+        if is_leaf(kind) {
+            let leaf = match frame::leaf_at(list, start, kind) {
+                Ok(leaf) => leaf,
+                Err(refusal) => return Err(refusal.at(p)),
+            };
+            contents = contents.with(leaf.id, start - (p + 1) + leaf.size);
+            p = leaf.end;
         } else {
-            measure_payload(list, p, start, kind, table, work, j, left - 1)
-        };
-        let field = measured?;
-        p = field.next;
-        j = field.opened;
-        contents.shared = run::join(contents.shared, field.id);
-        contents.count += 1;
-        contents.sum += field.size;
+            let field = measure_payload(list, p, start, kind, table, work, j, left - 1)?;
+            contents = contents.with(field.id, field.size);
+            p = field.next;
+            j = field.opened;
+        }
     }
     Err(Refusal::ListEnds.at(p))
 }
@@ -222,20 +238,35 @@ fn measure_fields(
         let start = frame.start;
         notes = naming::note(list, at, table, notes, frame.begin, start);
         reach = p - at + 1;
-        let measured = if is_leaf(kind) {
-            measured_leaf(frame::leaf_at(list, start, kind), p, start - (p + 1), j)
+        if is_leaf(kind) {
+            let leaf = match frame::leaf_at(list, start, kind) {
+                Ok(leaf) => leaf,
+                Err(refusal) => {
+                    let refused = Err(refusal.at(p));
+                    return naming::ended(list, at, table, notes, reach, left, refused);
+                }
+            };
+            contents = contents.with(leaf.id, start - (p + 1) + leaf.size);
+            p = leaf.end;
         } else {
             let held = notes::held(notes);
-            measure_payload(list, p, start, kind, &mut table[held..], work, j, left - 1)
-        };
-        let Ok(field) = measured else {
-            return naming::ended(list, at, table, notes, reach, left, measured);
-        };
-        p = field.next;
-        j = field.opened;
-        contents.shared = run::join(contents.shared, field.id);
-        contents.count += 1;
-        contents.sum += field.size;
+            let measured = measure_payload(
+                list,
+                p,
+                start,
+                kind,
+                &mut table[held..],
+                work,
+                j,
+                left - 1,
+            );
+            let Ok(field) = measured else {
+                return naming::ended(list, at, table, notes, reach, left, measured);
+            };
+            contents = contents.with(field.id, field.size);
+            p = field.next;
+            j = field.opened;
+        }
     }
     let refused = Err(Refusal::ListEnds.at(p));
     naming::ended(list, at, table, notes, reach, left, refused)

@@ -1,25 +1,28 @@
 -- Bytes copied: what the code knows at each return.
 use Prim.Native.Nat.{ℕ, ◌+◌, ◌-◌, ◌≤◌, ◌<◌}
 use native.Mathlib.Omega.{arith}
+use native.Mathlib.Numerals.{add-one}
 use mathlib.Core.Path.{◌≡◌, refl, sym, ◌∙◌}
 use mathlib.Core.Bool.{true, false, ◌&&◌, and-false}
 use mathlib.Core.Logic.{◌⊎◌, inl, inr}
-use mathlib.Core.List.{List}
-use lib.ListN.{length}
+use mathlib.Core.List.{List, [], ◌∷◌, ◌++◌}
+use lib.ListN.{length, take, get_or, set}
 use lib.Dec.{leb}
-use lib.Seq.{sets, take-length}
+use lib.Seq.{sets, take-length, take-suc, length-take-le}
 use borrow.Author.Tests.{le-leb, lt-leb}
-use borrow.Rule.Slice.PartMut.{put_mid}
-use Rattle.std.proofs.lemmas.Slice.{put_mid-paste}
-use Rattle.std.proofs.lemmas.List.Edits.{sets-eq}
 use Rattle.front.specs.Between.{between}
+use Rattle.frames.proofs.PlaceLaws.{sets_append}
 use Rattle.output.specs.Copied.{copied}
 
--- bytes put in the place of as many
-placed : (to : ℕ) (o ys z : List ℕ) → z ≡ ys → to + length ys ≤ length o → put_mid to (to + length ys - to) o z ≡ sets o to ys
-placed to o ys z e h =
-    put_mid-paste to (to + length ys - to) o z ys (length ys) e (omega arith) refl
-    ∙ rw (take-length ys) (sym (sets-eq ys o to h))
+-- ---- the loop: so many of the bytes are put
+
+pub put_more : (ys start out : List ℕ) (to i : ℕ) → i < length ys → out ≡ sets start to (take i ys)
+    → set out (to + i) (get_or ys i 0) ≡ sets start to (take (i + 1) ys)
+put_more ys start out to i l o =
+    let n : length (take i ys) ≡ i = length-take-le i ys (omega arith) in
+    let z : sets (sets start to (take i ys)) (to + length (take i ys)) (get_or ys i 0 ∷ []) ≡ sets start to (take i ys ++ (get_or ys i 0 ∷ [])) =
+    sets_append (take i ys) (get_or ys i 0 ∷ []) start to in
+    rw (add-one i, take-suc ys i 0 l, ← z, n, ← o) refl
 
 -- ---- where there is no room, and where there is
 
@@ -46,6 +49,6 @@ module _ (s : List ℕ) (from end : ℕ) (o : List ℕ) (to : ℕ) where
     pub copy_few : length o < to + (end - from) → o ≡ copied s from end o to
     copy_few h = none (rw (le-leb from end l, le-leb end (length s) m, lt-leb (to + (end - from)) (length o) h))
 
-    pub copy_done : (ys z : List ℕ) → ys ≡ between from end s → length ys + from ≡ end → to + length ys ≤ length o → z ≡ ys
-        → put_mid to (to + length ys - to) o z ≡ copied s from end o to
-    copy_done ys z y k h e = placed to o ys z e h ∙ (rw y (all (within (omega arith))))
+    pub copy_done : (ys z : List ℕ) (i : ℕ) → ys ≡ between from end s → length ys + from ≡ end → to + length ys ≤ length o → i ≡ length ys
+        → z ≡ sets o to (take i ys) → z ≡ copied s from end o to
+    copy_done ys z i y k h n e = e ∙ rw (n, take-length ys, y) (all (within (omega arith)))
