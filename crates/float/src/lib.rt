@@ -57,7 +57,8 @@ pub fn narrow(bits: u64) -> Option<u32>
 pub fn of_integer(z: i64) -> Option<u64>
     ensures { result ≡ exact z }
 {
-    if z.unsigned_abs() <= 9007199254740992 {
+    let near = z.unsigned_abs() <= 9007199254740992;
+    if near {
         Some((z as f64).to_bits())
     } else {
         None

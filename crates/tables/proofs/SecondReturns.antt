@@ -1,11 +1,10 @@
 -- The least beginning from a bound on, and that the least but one is the first twin of entries of one name.
-use Prim.Native.Nat.{ℕ, min, ◌+◌, ◌≤◌, ◌<◌}
+use Prim.Native.Nat.{ℕ, ◌+◌, ◌≤◌, ◌<◌}
 use native.Mathlib.Omega.{arith}
 use mathlib.Core.Path.{◌≡◌, refl, sym, ap, ◌∙◌}
 use mathlib.Core.Bool.{Bool, true, false, cond}
 use mathlib.Core.List.{List, [], ◌∷◌, ◌++◌, map}
-use Rattle.std.specs.List.{filter, fold, reduce}
-use Rattle.std.specs.Option.{unwrap_or}
+use Rattle.std.specs.List.{filter, fold}
 use Rattle.std.proofs.lemmas.List.{append-nil, append_assoc}
 use lib.Dec.{ltb, leb}
 use borrow.Author.Tests.{ltb-true, ltb-false, lt-ltb, le-ltb, leb-true, leb-false}
@@ -105,45 +104,35 @@ one_more_law t y bound r w = record {
 
 -- ---- the least of those that begin from the bound on
 
+-- of what was found and one beginning more
+abbrev pub sooner : ℕ → ℕ → ℕ
+sooner found begin = lesser begin found
+
 module _ (bound : ℕ) where
   abbrev pub late : List ℕ → List ℕ
   late u = filter (λ b. leb bound b) (map begin_in u)
 
-  late_nearer : (b r : ℕ) → leb bound b ≡ true → nearer b bound r ≡ min r b
-  late_nearer b r e = rw (le-ltb b bound (leb-true bound b e)) (go (ltb b r) refl)
-    where
-      go : (o : Bool) → ltb b r ≡ o → cond o b r ≡ min r b
-      go true q = omega (arith, ltb-true b r q)
-      go false q = omega (arith, ltb-false b r q)
+  late_nearer : (b r : ℕ) → leb bound b ≡ true → nearer b bound r ≡ sooner r b
+  late_nearer b r e = rw (le-ltb b bound (leb-true bound b e))
 
   early_nearer : (b r : ℕ) → leb bound b ≡ false → nearer b bound r ≡ r
   early_nearer b r e = rw (lt-ltb b bound (leb-false bound b e))
 
-  rest_law : (t u : List ℕ) (r : ℕ) → Smallest t bound r → Smallest (t ++ u) bound (fold min r (late u))
+  rest_law : (t u : List ℕ) (r : ℕ) → Smallest t bound r → Smallest (t ++ u) bound (fold sooner r (late u))
   rest_law t [] r w = rw append-nil w
   rest_law t (y ∷ u) r w =
       go (leb bound (begin_in y)) refl (one_more_law t y bound r w) (λ q v. rw (← append_assoc t (y ∷ []) u) (rest_law (t ++ (y ∷ [])) u q v))
     where
       go : (o : Bool) → leb bound (begin_in y) ≡ o → Smallest (t ++ (y ∷ [])) bound (nearer (begin_in y) bound r)
-          → ((q : ℕ) → Smallest (t ++ (y ∷ [])) bound q → Smallest (t ++ (y ∷ u)) bound (fold min q (late u)))
-          → Smallest (t ++ (y ∷ u)) bound (fold min r (cond o (begin_in y ∷ late u) (late u)))
-      go true e v f = f (min r (begin_in y)) (rw (late_nearer (begin_in y) r e) at v)
+          → ((q : ℕ) → Smallest (t ++ (y ∷ [])) bound q → Smallest (t ++ (y ∷ u)) bound (fold sooner q (late u)))
+          → Smallest (t ++ (y ∷ u)) bound (fold sooner r (cond o (begin_in y ∷ late u) (late u)))
+      go true e v f = f (sooner r (begin_in y)) (rw (late_nearer (begin_in y) r e) at v)
       go false e v f = f r (rw (early_nearer (begin_in y) r e) at v)
 
-  from_first : (u : List ℕ) → unwrap_or (reduce min (late u)) 16777216 ≡ fold min 16777216 (late u)
-  from_first [] = refl
-  from_first (y ∷ u) = go (leb bound (begin_in y)) (from_first u)
-    where
-      go : (o : Bool) → unwrap_or (reduce min (late u)) 16777216 ≡ fold min 16777216 (late u)
-          → unwrap_or (reduce min (cond o (begin_in y ∷ late u) (late u))) 16777216 ≡ fold min 16777216 (cond o (begin_in y ∷ late u) (late u))
-      go true e = ap (λ (n : ℕ). fold min n (late u)) (let z : begin_in y ≡ min 16777216 (begin_in y) = omega arith in z)
-      go false e = e
-
-  pub late_smallest : (t : List ℕ) → unwrap_or (reduce min (late t)) 16777216 ≡ smallest bound t
+  pub late_smallest : (t : List ℕ) → fold sooner 16777216 (late t) ≡ smallest bound t
   unfolding smallest
   late_smallest t =
-      from_first t
-      ∙ one_smallest t bound (fold min 16777216 (late t)) (smallest bound t) (rest_law [] t 16777216 (smallest_is bound [])) (smallest_is bound t)
+      one_smallest t bound (fold sooner 16777216 (late t)) (smallest bound t) (rest_law [] t 16777216 (smallest_is bound [])) (smallest_is bound t)
 
 -- ---- of entries of one name
 

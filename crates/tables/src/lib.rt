@@ -12,8 +12,7 @@ fn smallest(table: &[u64], bound: usize) -> usize
         .iter()
         .map(|x| entries::begin_of(*x))
         .filter(|begin| bound <= *begin)
-        .min()
-        .unwrap_or(16777216)
+        .fold(16777216, |found, begin| entries::lesser(begin, found))
 }
 
 // The least beginning but one, which of entries of one name is the first twin; 16777216 if there is none.

@@ -5,5 +5,5 @@ use Rattle.float.proofs.of_integer.Goals as goal
 pub float_to_bits-result : goal.float_to_bits-result
 float_to_bits-result c = search integer_good
 
-pub returns-then-unsigned_abs-le9007199254740992 : goal.returns-then-unsigned_abs-le9007199254740992
-returns-then-unsigned_abs-le9007199254740992 c = search exact_bits
+pub returns-then-near : goal.returns-then-near
+returns-then-near c = search exact_bits
