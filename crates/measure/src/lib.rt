@@ -64,7 +64,7 @@ impl Contents {
     }
 
     // The container, closed at a place of the list: its work number is stored, the k-th. The name before it takes `before` bytes, and `opened` is the next
-    // number. Inlined, since `named` is known at each call: else empty arrays take a tenth longer.
+    // number. Inlined, since `named` is known at each call: else a list that is 32 deep takes 8 percent more instructions.
     #[inline(always)]
     #[tactic(auto, using(crate::proofs::SmallLaws::closed_by))]
     fn closed(

@@ -10,7 +10,7 @@ pub fn copy(list: &[u8], from: usize, end: usize, out: &mut [u8], to: usize)
 {
     if let Some(bytes) = list.get(from..end) {
         if to <= out.len() && bytes.len() <= out.len() - to {
-            // Not `copy_from_slice`: most of what is copied is a few bytes, and with it a list of numbers takes a tenth longer.
+            // Not `copy_from_slice`: the compiler makes a call of `memmove` of it, which the archives would need from outside.
             for (i, &byte) in bytes.iter().enumerate() {
                 out[to + i] = byte;
             }

@@ -2,9 +2,11 @@ use Rattle.std.proofs.Common.{rules, arith, ◌∙◌, ◌≡◌, Err}
 use mathlib.Core.Path.{refl}
 use Rattle.measure.proofs.SmallLaws.{plain_by}
 use Rattle.measure.proofs.FieldCases.{payload_object, payload_array, leaf_sum, leaf_is}
-use Rattle.measure.proofs.LoopReturns.{standing_starts, stands_more, more_fits, more_less, met, met_deep, met_payload, met_after, met_leaf, leaf_fits, leaf_bad, leaf_good}
+use Rattle.measure.proofs.LoopReturns.{standing_starts, stands_more, more_fits, more_less, met, met_deep, met_payload, met_after}
+use Rattle.measure.proofs.LoopReturns.{met_leaf, leaf_fits, leaf_bad, leaf_good}
 use Rattle.measure.proofs.LoopReturns.{items_end, items_close, items_bad, items_cut}
-use Rattle.measure.proofs.LoopReturns.{fields_end, fields_closed, fields_close, fields_barred, fields_bad, fields_cut, names_next, noted, names_over, same_table}
+use Rattle.measure.proofs.LoopReturns.{fields_end, fields_closed, fields_close, fields_barred, fields_bad, fields_cut}
+use Rattle.measure.proofs.LoopReturns.{names_next, noted, names_over, same_table}
 use Rattle.measure.proofs.NameLaws.{names_start}
 use Rattle.measure.proofs.+measure_fields_measure_items_measure_payload.Goals as goal
 
@@ -35,8 +37,8 @@ measure_items-overflow_sub-start t c = met_after (met c.loop-p.invariant.2 c.loo
 
 pub measure_items-overflow_add-start : goal.measure_items-overflow_add-start
 measure_items-overflow_add-start t c =
-    leaf_fits (met c.loop-p.invariant.2 c.loop-p-test.true c.if-list-p-eq0.false c.front_at.ensures c.in-Ok.is) c.leaf_at.ensures c.is_leaf.ensures c.if-is_leaf.true
-    c.in-Ok-leaf_at.is
+    let g = met c.loop-p.invariant.2 c.loop-p-test.true c.if-list-p-eq0.false c.front_at.ensures c.in-Ok.is in
+    leaf_fits g c.leaf_at.ensures c.is_leaf.ensures c.if-is_leaf.true c.in-Ok-leaf_at.is
 
 pub measure_items-with-contents-requires : goal.measure_items-with-contents-requires
 measure_items-with-contents-requires t c =
@@ -59,15 +61,18 @@ measure_items-loop-p-preserved-then-is_leaf t c =
 pub measure_items-returns-in_err-field : goal.measure_items-returns-in_err-field
 measure_items-returns-in_err-field t c =
     let e : c.from_residual.result ≡ Err c.in_err-field.field-0.0 = search rules in
-    rw e (items_cut (met c.loop-p.invariant.2 c.loop-p-test.true c.if-list-p-eq0.false c.front_at.ensures c.in-Ok.is) c.measure_payload.ensures c.in_err-field.was)
+    let g = met c.loop-p.invariant.2 c.loop-p-test.true c.if-list-p-eq0.false c.front_at.ensures c.in-Ok.is in
+    rw e (items_cut g c.measure_payload.ensures c.in_err-field.was)
 
 pub measure_items-with-contents-requires-else-is_leaf : goal.measure_items-with-contents-requires-else-is_leaf
 measure_items-with-contents-requires-else-is_leaf t c =
-    more_fits (met c.loop-p.invariant.2 c.loop-p-test.true c.if-list-p-eq0.false c.front_at.ensures c.in-Ok.is) c.measure_payload.ensures c.in_ok-field.was
+    let g = met c.loop-p.invariant.2 c.loop-p-test.true c.if-list-p-eq0.false c.front_at.ensures c.in-Ok.is in
+    more_fits g c.measure_payload.ensures c.in_ok-field.was
 
 pub measure_items-loop-p-smaller : goal.measure_items-loop-p-smaller
 measure_items-loop-p-smaller t c =
-    more_less (met c.loop-p.invariant.2 c.loop-p-test.true c.if-list-p-eq0.false c.front_at.ensures c.in-Ok.is) c.measure_payload.ensures c.in_ok-field.was
+    let g = met c.loop-p.invariant.2 c.loop-p-test.true c.if-list-p-eq0.false c.front_at.ensures c.in-Ok.is in
+    more_less g c.measure_payload.ensures c.in_ok-field.was
 
 pub measure_items-loop-p-preserved : goal.measure_items-loop-p-preserved
 measure_items-loop-p-preserved t c =
@@ -108,15 +113,16 @@ pub measure_fields-returns-in-Err-leaf_at : goal.measure_fields-returns-in-Err-l
 measure_fields-returns-in-Err-leaf_at t c =
     let g = met c.loop-p.invariant.2 c.loop-p-test.true c.if-list-p-eq0.false c.front_at.ensures c.in-Ok.is in
     let n = noted g c.loop-p.invariant.3 c.note-notes.ensures in
-    fields_cut g n (met_leaf g c.leaf_at.ensures c.is_leaf.ensures c.if-is_leaf.true) (leaf_bad _ _ _ c.in-Err-leaf_at.is) (rw c.at-in-Err-leaf_at.ensures at c.ended-in-Err-leaf_at.ensures)
+    let q = met_leaf g c.leaf_at.ensures c.is_leaf.ensures c.if-is_leaf.true in
+    fields_cut g n q (leaf_bad _ _ _ c.in-Err-leaf_at.is) (rw c.at-in-Err-leaf_at.ensures at c.ended-in-Err-leaf_at.ensures)
 
 pub measure_fields-overflow_sub-start : goal.measure_fields-overflow_sub-start
 measure_fields-overflow_sub-start t c = met_after (met c.loop-p.invariant.2 c.loop-p-test.true c.if-list-p-eq0.false c.front_at.ensures c.in-Ok.is)
 
 pub measure_fields-overflow_add-start : goal.measure_fields-overflow_add-start
 measure_fields-overflow_add-start t c =
-    leaf_fits (met c.loop-p.invariant.2 c.loop-p-test.true c.if-list-p-eq0.false c.front_at.ensures c.in-Ok.is) c.leaf_at.ensures c.is_leaf.ensures c.if-is_leaf.true
-    c.in-Ok-leaf_at.is
+    let g = met c.loop-p.invariant.2 c.loop-p-test.true c.if-list-p-eq0.false c.front_at.ensures c.in-Ok.is in
+    leaf_fits g c.leaf_at.ensures c.is_leaf.ensures c.if-is_leaf.true c.in-Ok-leaf_at.is
 
 pub measure_fields-with-contents-requires : goal.measure_fields-with-contents-requires
 measure_fields-with-contents-requires t c =
@@ -149,11 +155,13 @@ measure_fields-returns-in_default t c =
 
 pub measure_fields-with-contents-requires-else-is_leaf : goal.measure_fields-with-contents-requires-else-is_leaf
 measure_fields-with-contents-requires-else-is_leaf t c =
-    more_fits (met c.loop-p.invariant.2 c.loop-p-test.true c.if-list-p-eq0.false c.front_at.ensures c.in-Ok.is) c.measure_payload-measured.ensures c.in-Ok-measured.is
+    let g = met c.loop-p.invariant.2 c.loop-p-test.true c.if-list-p-eq0.false c.front_at.ensures c.in-Ok.is in
+    more_fits g c.measure_payload-measured.ensures c.in-Ok-measured.is
 
 pub measure_fields-loop-p-smaller : goal.measure_fields-loop-p-smaller
 measure_fields-loop-p-smaller t c =
-    more_less (met c.loop-p.invariant.2 c.loop-p-test.true c.if-list-p-eq0.false c.front_at.ensures c.in-Ok.is) c.measure_payload-measured.ensures c.in-Ok-measured.is
+    let g = met c.loop-p.invariant.2 c.loop-p-test.true c.if-list-p-eq0.false c.front_at.ensures c.in-Ok.is in
+    more_less g c.measure_payload-measured.ensures c.in-Ok-measured.is
 
 pub measure_fields-loop-p-preserved : goal.measure_fields-loop-p-preserved
 measure_fields-loop-p-preserved t c =
